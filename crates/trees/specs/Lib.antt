@@ -1,0 +1,6 @@
+-- Trees: data trees and twigs, what is said of their elements, and their signatures, with the laws that every call above uses.
+pub mod Tree
+pub mod Nodes
+pub mod Ranks
+pub mod Signature
+pub mod Facts

@@ -1,0 +1,1 @@
+// Layer 1, trees: no code. Definitions and laws stand in specs/.

@@ -1,0 +1,1 @@
+// Layer 1, turns: no code. Its laws stand in specs/.
