@@ -2,5 +2,5 @@
 pub mod Pick
 pub mod Turn
 pub mod Laws
--- pub mod Counts
--- pub mod Chains
+pub mod Counts
+pub mod Chains
