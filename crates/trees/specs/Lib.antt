@@ -4,3 +4,6 @@ pub mod Nodes
 pub mod Ranks
 pub mod Signature
 pub mod Facts
+pub mod Rows
+pub mod Listed
+pub mod Unique
