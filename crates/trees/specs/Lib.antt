@@ -5,5 +5,7 @@ pub mod Ranks
 pub mod Signature
 pub mod Facts
 pub mod Rows
+pub mod Order
 pub mod Listed
 pub mod Unique
+pub mod FactsOf

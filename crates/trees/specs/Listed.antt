@@ -10,7 +10,7 @@ use native.Mathlib.Nat.{add-suc, add-zero}
 use lib.ListN.{length, getD, drop, length-append, drop-of-length-le}
 use lib.Seq.{drop-cons, drop-drop, drop-at, getD-drop}
 use Rattle.trees.specs.Tree.{Forest, none, elem, size}
-use Rattle.trees.specs.Signature.{cell, Entries, entriesOf, width, rowSignature}
+use Rattle.trees.specs.Signature.{cell, entriesOf, rowSignature}
 use Rattle.trees.specs.Rows.{Entry, Holds}
 
 -- "In memory a signature is 4×n sixteen-bit numbers"
