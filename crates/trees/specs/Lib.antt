@@ -9,3 +9,6 @@ pub mod Order
 pub mod Listed
 pub mod Unique
 pub mod FactsOf
+pub mod Places
+pub mod NodeRanks
+pub mod NodeOrder
