@@ -12,3 +12,4 @@ pub mod FactsOf
 pub mod Places
 pub mod NodeRanks
 pub mod NodeOrder
+pub mod NodeAncestors

@@ -1,20 +1,24 @@
 -- What one element is to another, read off their ranks.
 --   before-pre, pre-before    x comes before y exactly if its pre is less
 --   below-pre, pre-below      y is below x exactly if its pre lies among the heldBy x ranks after that of x
---   below-before, below-trans, below-irreflexive   what is below comes after, and so on down
+--   Among x y                 pre of y is one of those ranks
+--   below-before, below-trans, below-irreflexive, below-held   what is below comes after, and so on down
 --   below-post, post-below    for x before y, y is below x exactly if its post is less
 --   follows-post              otherwise its post is greater
 --   held-high                 the ranks of what is below x end with the row
 --   level-ranks               pre and what x holds make up post and level
 use Prim.Native.Nat.{ℕ, zero, suc, _+_, _≤_, _<_}
 use mathlib.Core.Path.{_≡_, refl, ap, _∙_, sym}
+use mathlib.Core.Logic.{_⊎_, inl, inr, ⊎-elim}
 use mathlib.Core.List.{List, [], _∷_, map}
 use native.Mathlib.Omega.{arith}
+use native.Mathlib.Nat.{eq-or-lt-of-le}
 use lib.ListN.{length, length-map}
 use Rattle.trees.specs.Tree.{Forest, none, elem, size}
 use Rattle.trees.specs.Nodes.{Node, here, under, beside, Below, Before, ancestors, levelOf}
 use Rattle.trees.specs.Ranks.{pre, post, heldBy}
-use Rattle.trees.specs.NodeRanks.{pre-low, pre-high, post-low, post-high}
+use Rattle.trees.specs.NodeRanks.{pre-low, pre-high, post-low, post-high, post-injective}
+use Rattle.trees.specs.Order.{lt-or-ge}
 
 -- the ranks of what is below x end with the row
 pub held-high : {f : Forest} (x : Node f) → pre x + heldBy x ≤ size f
@@ -51,6 +55,7 @@ pre-before (beside x) (beside y) h = pre-before x y (omega arith)
 
 -- ---- what is below x has the ranks right after that of x
 
+-- pre of y is one of the heldBy x ranks after that of x
 pub record Among {f : Forest} (x y : Node f) : Type 0 where
   pub after : pre x < pre y
   pub within : pre y < pre x + 1 + heldBy x
@@ -131,6 +136,15 @@ post-below (under x) (beside y) b h = omega (arith, post-high x)
 post-below (beside x) here b h = b
 post-below (beside x) (under y) b h = b
 post-below (beside x) (beside y) b h = post-below x y b (omega arith)
+
+pub follows-post : {f : Forest} (x y : Node f) → Before x y → (Below x y → ⊥) → post x < post y
+follows-post x y b n =
+    ⊎-elim (λ (h : post x < post y). h)
+    (λ (h : post y ≤ post x). ⊎-elim (λ (e : post y ≡ post x). absurd (same e)) (λ (l : post y < post x). absurd (n (post-below x y b l))) (eq-or-lt-of-le h))
+    (lt-or-ge (post x) (post y))
+  where
+    same : post y ≡ post x → ⊥
+    same e = omega (arith, before-pre x y b, ap pre (post-injective y x e))
 
 -- ---- "The level of an entry is the number of its ancestors."
 
