@@ -13,3 +13,4 @@ pub mod Places
 pub mod NodeRanks
 pub mod NodeOrder
 pub mod NodeAncestors
+pub mod Meanings
