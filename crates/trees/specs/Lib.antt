@@ -14,3 +14,5 @@ pub mod NodeRanks
 pub mod NodeOrder
 pub mod NodeAncestors
 pub mod Meanings
+pub mod Tags
+pub mod TagLaws
