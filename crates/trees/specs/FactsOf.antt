@@ -3,7 +3,7 @@
 --   bounds               they hold of each entry of a row
 --   order                of two entries of a row the later one is below the earlier one, or follows it
 --   facts-of             all of it, for a tree
-use Prim.Native.Nat.{ℕ, zero, suc, _+_, _≤_, _<_}
+use Prim.Native.Nat.{ℕ, suc, _+_, _≤_, _<_}
 use mathlib.Core.Path.{_≡_, ap, _∙_, sym, subst}
 use mathlib.Core.Logic.{_⊎_, inl, inr, ⊎-elim}
 use native.Mathlib.Omega.{arith}
@@ -21,7 +21,10 @@ Lies i k r j = (i ≡ j) ⊎ ((i + 1 ≤ j) × (j < i + 1 + k)) ⊎ ((i + 1 + k 
 lies : (i k r j : ℕ) → i ≤ j → j < i + suc (k + r) → Lies i k r j
 lies i k r j l h =
     ⊎-elim (λ (e : i ≡ j). inl e)
-    (λ (g : i < j). inr (⊎-elim (λ (a : j < i + 1 + k). inl (omega arith, a)) (λ (b : i + 1 + k ≤ j). inr (b, omega arith)) (lt-or-ge j (i + 1 + k))))
+    (λ (g : i < j). inr (⊎-elim
+      (λ (a : j < i + 1 + k). inl (omega arith, a))
+      (λ (b : i + 1 + k ≤ j). inr (b, omega arith))
+      (lt-or-ge j (i + 1 + k))))
     (eq-or-lt-of-le l)
 
 module _ (e : Entries) where
@@ -162,7 +165,9 @@ facts-of t e h = record {
         (bounds e (t .below) (1 + 1) 1 0 (omega arith) (h .1) j (omega arith) (omega arith) .fa-low)
 
     own-of : (j : ℕ) → 1 < j → j ≤ size (whole t) → Inside e (e .fa j) j
-    own-of j l g = ⊎-elim (λ (x : Inside e (e .fa j) j). x) (λ (x : Follows e (e .fa j) j). absurd (apart-no x)) (pair-of (e .fa j) j up (b .fa-high) g)
+    own-of j l g =
+        ⊎-elim (λ (x : Inside e (e .fa j) j). x) (λ (x : Follows e (e .fa j) j). absurd (apart-no x))
+        (pair-of (e .fa j) j up (b .fa-high) g)
       where
         b : Bounds e 1 0 0 (size (whole t)) j
         b = at j (omega arith) g

@@ -2,7 +2,7 @@
 --   signature-length     the signature of a row has four numbers for each element
 --   listed-holds, holds-listed   one way and the other, for a row that starts at any entry
 --   listed-whole, whole-listed   the same for the whole list
-use Prim.Native.Nat.{ℕ, zero, suc, _+_, _-_, _*_, _≤_, _<_}
+use Prim.Native.Nat.{ℕ, suc, _+_, _-_, _*_, _≤_, _<_}
 use mathlib.Core.Path.{_≡_, refl, ap, _∙_, sym}
 use mathlib.Core.List.{List, [], _∷_, _++_, append-assoc, append-nil}
 use native.Mathlib.Omega.{arith}

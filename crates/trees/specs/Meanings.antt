@@ -6,18 +6,18 @@
 --   top-fa, fa-top, top-root    fa is 0 at the root, and only there
 --   ancestor-climbs, climbs-ancestor   climbing fa meets just the ancestors
 --   level-is                    the level is what ff, post and 1 leave
-use Prim.Native.Nat.{ℕ, zero, suc, _+_, _-_, _≤_, _<_}
+use Prim.Native.Nat.{ℕ, _+_, _-_, _≤_, _<_}
 use mathlib.Core.Path.{_≡_, refl, ap, _∙_, sym, subst}
-use mathlib.Core.Logic.{_⊎_, inl, inr, ⊎-elim}
+use mathlib.Core.Logic.{⊎-elim}
 use native.Mathlib.Omega.{arith}
 use native.Mathlib.Nat.{eq-or-lt-of-le}
-use Rattle.trees.specs.Tree.{Forest, none, elem, size, Tree, whole}
+use Rattle.trees.specs.Tree.{Forest, size, Tree, whole}
 use Rattle.trees.specs.Nodes.{Node, here, under, beside, nameOf, Below, Top, Parent, Ancestor, parent, above, levelOf}
 use Rattle.trees.specs.Ranks.{pre, post, heldBy, FirstPast, Climbs, once, more}
 use Rattle.trees.specs.Signature.{Entries}
-use Rattle.trees.specs.Rows.{Entry, Holds}
+use Rattle.trees.specs.Rows.{Holds}
 use Rattle.trees.specs.Order.{lt-or-ge}
-use Rattle.trees.specs.NodeRanks.{pre-low, pre-high, pre-injective, node-at}
+use Rattle.trees.specs.NodeRanks.{pre-low, pre-injective, node-at}
 use Rattle.trees.specs.NodeOrder.{below-pre, pre-below, held-high, level-ranks}
 use Rattle.trees.specs.NodeAncestors.{top-or-parent}
 

@@ -4,14 +4,15 @@
 --   ancestor-below, below-ancestor   x is an ancestor of y exactly if y is below x
 --   ancestors-sound, ancestors-complete   the list of ancestors has just these
 --   ancestors-nested, ancestors-once      outermost first, each once
-use Prim.Native.Nat.{ℕ, zero, suc, _+_, _≤_, _<_}
-use mathlib.Core.Path.{_≡_, refl, ap, _∙_, sym, subst}
+use Prim.Native.Nat.{ℕ, suc, _≤_, _<_}
+use mathlib.Core.Path.{_≡_, refl, ap, sym}
 use mathlib.Core.Logic.{_⊎_, inl, inr, ⊎-elim}
-use mathlib.Core.List.{List, [], _∷_, map, List·Memᴰ, List·Memᴰ·head, List·Memᴰ·tail, List·Memᴰ·cases-cons, List·Memᴰ·not-nil, Memᴰ·map, Memᴰ·of-map}
+use mathlib.Core.List.{map}
+use mathlib.Core.List.{List·Memᴰ, List·Memᴰ·head, List·Memᴰ·tail, List·Memᴰ·cases-cons, List·Memᴰ·not-nil, Memᴰ·map, Memᴰ·of-map}
 use native.Mathlib.Omega.{arith}
 use native.Mathlib.Nat.{eq-or-lt-of-le}
-use Rattle.trees.specs.Tree.{Forest, none, elem, size}
-use Rattle.trees.specs.Nodes.{Node, here, under, beside, Below, Top, Parent, Ancestor, parent, above, ancestors, Place, first, next}
+use Rattle.trees.specs.Tree.{Forest, elem}
+use Rattle.trees.specs.Nodes.{Node, here, under, beside, Below, Top, Parent, Ancestor, parent, above, ancestors, Place}
 use Rattle.trees.specs.NodeOrder.{below-trans, below-irreflexive}
 use Rattle.trees.specs.Order.{lt-or-ge}
 use Rattle.trees.specs.Places.{place-low, place-high, place-cons, place-of-map}
@@ -96,7 +97,8 @@ pushed b k here = here
 pushed b k (under x) = under (beside x)
 pushed b k (beside x) = beside x
 
-pushed-parent : (b : ℕ) (k : Forest) {a : ℕ} {r after : Forest} (x y : Node (elem a r after)) → Parent x y → Parent (pushed b k x) (pushed b k y)
+pushed-parent : (b : ℕ) (k : Forest) {a : ℕ} {r after : Forest} (x y : Node (elem a r after))
+    → Parent x y → Parent (pushed b k x) (pushed b k y)
 unfolding pushed
 pushed-parent b k here here p = p
 pushed-parent b k here (under y) p = p
@@ -135,7 +137,9 @@ unfolding ancestors
 ancestors-sound x here m = absurd (List·Memᴰ·not-nil m)
 ancestors-sound x (under {after = r} y) m =
     ⊎-elim (λ (e : x ≡ here). rw e tt)
-    (λ (n : List·Memᴰ x (map under (ancestors y))). let s = Memᴰ·of-map under (ancestors y) n in rw (← s .2) (ancestors-sound (s .0) y (s .1)))
+    (λ (n : List·Memᴰ x (map under (ancestors y))).
+      let s = Memᴰ·of-map under (ancestors y) n in
+      rw (← s .2) (ancestors-sound (s .0) y (s .1)))
     (List·Memᴰ·cases-cons m)
 ancestors-sound x (beside y) m = let s = Memᴰ·of-map beside (ancestors y) m in rw (← s .2) (ancestors-sound (s .0) y (s .1))
 
@@ -177,5 +181,8 @@ ancestors-nested x y (beside z) p q l =
 pub ancestors-once : {f : Forest} {i j : ℕ} (x y : Node f) → Place (ancestors y) i x → Place (ancestors y) j x → i ≡ j
 ancestors-once {i = i} {j = j} x y p q =
     ⊎-elim (λ (l : i < j). absurd (below-irreflexive x (ancestors-nested x x y p q l)))
-    (λ (g : j ≤ i). ⊎-elim (λ (e : j ≡ i). sym e) (λ (l : j < i). absurd (below-irreflexive x (ancestors-nested x x y q p l))) (eq-or-lt-of-le g))
+    (λ (g : j ≤ i). ⊎-elim
+      (λ (e : j ≡ i). sym e)
+      (λ (l : j < i). absurd (below-irreflexive x (ancestors-nested x x y q p l)))
+      (eq-or-lt-of-le g))
     (lt-or-ge i j)

@@ -7,17 +7,16 @@
 --   follows-post              otherwise its post is greater
 --   held-high                 the ranks of what is below x end with the row
 --   level-ranks               pre and what x holds make up post and level
-use Prim.Native.Nat.{ℕ, zero, suc, _+_, _≤_, _<_}
-use mathlib.Core.Path.{_≡_, refl, ap, _∙_, sym}
-use mathlib.Core.Logic.{_⊎_, inl, inr, ⊎-elim}
-use mathlib.Core.List.{List, [], _∷_, map}
+use Prim.Native.Nat.{_+_, _≤_, _<_}
+use mathlib.Core.Path.{_≡_, ap}
+use mathlib.Core.Logic.{⊎-elim}
 use native.Mathlib.Omega.{arith}
 use native.Mathlib.Nat.{eq-or-lt-of-le}
-use lib.ListN.{length, length-map}
-use Rattle.trees.specs.Tree.{Forest, none, elem, size}
+use lib.ListN.{length-map}
+use Rattle.trees.specs.Tree.{Forest, size}
 use Rattle.trees.specs.Nodes.{Node, here, under, beside, Below, Before, ancestors, levelOf}
 use Rattle.trees.specs.Ranks.{pre, post, heldBy}
-use Rattle.trees.specs.NodeRanks.{pre-low, pre-high, post-low, post-high, post-injective}
+use Rattle.trees.specs.NodeRanks.{pre-low, pre-high, post-high, post-injective}
 use Rattle.trees.specs.Order.{lt-or-ge}
 
 -- the ranks of what is below x end with the row
@@ -140,7 +139,10 @@ post-below (beside x) (beside y) b h = post-below x y b (omega arith)
 pub follows-post : {f : Forest} (x y : Node f) → Before x y → (Below x y → ⊥) → post x < post y
 follows-post x y b n =
     ⊎-elim (λ (h : post x < post y). h)
-    (λ (h : post y ≤ post x). ⊎-elim (λ (e : post y ≡ post x). absurd (same e)) (λ (l : post y < post x). absurd (n (post-below x y b l))) (eq-or-lt-of-le h))
+    (λ (h : post y ≤ post x). ⊎-elim
+      (λ (e : post y ≡ post x). absurd (same e))
+      (λ (l : post y < post x). absurd (n (post-below x y b l)))
+      (eq-or-lt-of-le h))
     (lt-or-ge (post x) (post y))
   where
     same : post y ≡ post x → ⊥

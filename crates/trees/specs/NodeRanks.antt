@@ -5,15 +5,15 @@
 --   pre-injective, post-injective    no two elements share a rank
 --   node-at, closed-at               each number from 1 to the size is the pre rank of one element, and the post rank of one
 --   opening-once, closing-once       an element stands in each order at no other place
-use Prim.Native.Nat.{ℕ, zero, suc, _+_, _-_, _≤_, _<_}
-use mathlib.Core.Path.{_≡_, refl, ap, _∙_, sym, subst}
-use mathlib.Core.Logic.{_⊎_, inl, inr, ⊎-elim}
-use mathlib.Core.List.{List, [], _∷_, _++_, map}
+use Prim.Native.Nat.{ℕ, _+_, _-_, _≤_, _<_}
+use mathlib.Core.Path.{_≡_, refl, ap, _∙_, sym}
+use mathlib.Core.Logic.{⊎-elim}
+use mathlib.Core.List.{_∷_, map}
 use native.Mathlib.Omega.{arith}
 use lib.ListN.{length, length-append, length-map}
 use Rattle.trees.specs.Tree.{Forest, none, elem, size}
 use Rattle.trees.specs.Nodes.{Node, here, under, beside, opening, closing, Place, first, next}
-use Rattle.trees.specs.Ranks.{pre, post, heldBy}
+use Rattle.trees.specs.Ranks.{pre, post}
 use Rattle.trees.specs.Order.{lt-or-ge}
 use Rattle.trees.specs.Places.{place-low, place-high, place-map, place-left, place-right, place-at, place-unique}
 
@@ -43,7 +43,8 @@ pre-place (beside {a = a} {below = k} {after = r} x) =
 pub post-place : {f : Forest} (x : Node f) → Place (closing f) (post x) x
 unfolding closing post
 post-place (here {a = a} {below = k} {after = r}) =
-    place-at (size k + 1) (omega (arith, length-map (closing k) (under {a = a} {after = r}), closing-length k)) (place-right (map under (closing k)) first)
+    place-at (size k + 1) (omega (arith, length-map (closing k) (under {a = a} {after = r}), closing-length k))
+    (place-right (map under (closing k)) first)
 post-place (under {below = k} {after = r} x) = place-left (here ∷ map beside (closing r)) (place-map under (post-place x))
 post-place (beside {a = a} {below = k} {after = r} x) =
     place-at (size k + 1 + post x) (omega (arith, length-map (closing k) (under {a = a} {after = r}), closing-length k))
@@ -80,7 +81,9 @@ node-at {f = elem a k r} i l h =
     ⊎-elim (λ (q : i < 2). (here, omega arith))
     (λ (q : 2 ≤ i). ⊎-elim
       (λ (p : i < size k + 2). let s = node-at {f = k} (i - 1) (omega arith) (omega arith) in (under (s .0), omega (arith, s .1)))
-      (λ (p : size k + 2 ≤ i). let s = node-at {f = r} (i - (1 + size k)) (omega arith) (omega arith) in (beside (s .0), omega (arith, s .1)))
+      (λ (p : size k + 2 ≤ i).
+        let s = node-at {f = r} (i - (1 + size k)) (omega arith) (omega arith) in
+        (beside (s .0), omega (arith, s .1)))
       (lt-or-ge i (size k + 2)))
     (lt-or-ge i 2)
 
@@ -91,7 +94,9 @@ closed-at {f = elem a k r} i l h =
     ⊎-elim (λ (q : i < size k + 1). let s = closed-at {f = k} i l (omega arith) in (under (s .0), s .1))
     (λ (q : size k + 1 ≤ i). ⊎-elim
       (λ (p : i < size k + 2). (here, omega arith))
-      (λ (p : size k + 2 ≤ i). let s = closed-at {f = r} (i - (1 + size k)) (omega arith) (omega arith) in (beside (s .0), omega (arith, s .1)))
+      (λ (p : size k + 2 ≤ i).
+        let s = closed-at {f = r} (i - (1 + size k)) (omega arith) (omega arith) in
+        (beside (s .0), omega (arith, s .1)))
       (lt-or-ge i (size k + 2)))
     (lt-or-ge i (size k + 1))
 

@@ -8,7 +8,7 @@
 --   opening f, closing f  the elements in the order in which they open, and in which they close
 --   ancestors y         the elements that y is below, outermost first
 --   Place l i x         x is the i-th of a list, counted from 1
-use Prim.Native.Nat.{ℕ, zero, suc}
+use Prim.Native.Nat.{ℕ, suc}
 use mathlib.Core.List.{List, [], _∷_, _++_, map}
 use lib.ListN.{length}
 use Rattle.trees.specs.Tree.{Forest, none, elem}

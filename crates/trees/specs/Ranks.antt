@@ -3,9 +3,9 @@
 --   heldBy x            the number of elements below x
 --   FirstPast x k       k is the first rank after x that is not below x, or one past the last
 --   Climbs fa i j       j is met on the way up from i by fa
-use Prim.Native.Nat.{ℕ, zero, suc, _+_, _≤_, _<_}
+use Prim.Native.Nat.{ℕ, _+_, _≤_, _<_}
 use mathlib.Core.Path.{_≡_}
-use Rattle.trees.specs.Tree.{Forest, none, elem, size}
+use Rattle.trees.specs.Tree.{Forest, size}
 use Rattle.trees.specs.Nodes.{Node, here, under, beside, Below}
 
 -- "pre counts from 1 as elements open"

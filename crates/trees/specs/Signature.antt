@@ -4,9 +4,9 @@
 --   entriesOf w s       those of a list whose entries have w numbers
 --   rowSignature f i up c   the numbers of a row whose first element is entry i, below entry up, c elements closed before it
 --   signature t         the signature of a tree
-use Prim.Native.Nat.{ℕ, zero, suc, _+_, _-_, _*_, _<_}
+use Prim.Native.Nat.{ℕ, _+_, _-_, _*_}
 use mathlib.Core.List.{List, [], _∷_, _++_}
-use lib.ListN.{length, getD}
+use lib.ListN.{getD}
 use Rattle.trees.specs.Tree.{Forest, none, elem, size, Tree, whole}
 
 -- number k of entry i, where an entry has w numbers

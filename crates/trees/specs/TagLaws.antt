@@ -3,7 +3,7 @@
 --   tags-read            the tree of a tree's tag list is the tree
 --   read-tags            a list whose tree is t is the tag list of t
 --   tags-unique          two trees with one tag list are one tree
-use Prim.Native.Nat.{ℕ, zero, suc, _+_, _*_}
+use Prim.Native.Nat.{ℕ, _*_}
 use mathlib.Core.Path.{_≡_, refl, ap, sym, _∙_}
 use mathlib.Core.Option.{Option, none, some}
 use mathlib.Core.List.{List, [], _∷_, _++_, append-assoc, append-nil}
@@ -58,7 +58,8 @@ spread [] = []
 spread (f ∷ []) = tagsOf f
 spread (f ∷ (g ∷ outer)) = tagsOf f ++ closes ∷ spread (g ∷ outer)
 
-spread-elem : (a : ℕ) (k r : Forest) (outer : List Forest) → spread (elem a k r ∷ outer) ≡ opens a ∷ (tagsOf k ++ closes ∷ spread (r ∷ outer))
+spread-elem : (a : ℕ) (k r : Forest) (outer : List Forest)
+    → spread (elem a k r ∷ outer) ≡ opens a ∷ (tagsOf k ++ closes ∷ spread (r ∷ outer))
 unfolding spread tagsOf
 spread-elem a k r [] = refl
 spread-elem a k r (g ∷ outer) = ap (opens a ∷_) (append-assoc (tagsOf k) (closes ∷ tagsOf r) (closes ∷ spread (g ∷ outer)))

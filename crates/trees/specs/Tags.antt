@@ -4,7 +4,9 @@
 --   treeTags t             the tag list of a tree
 --   rowsOf l               what a tag list holds, read from its end
 --   treeOf l               the tree of a tag list, if it is one whole tree
-use Prim.Native.Nat.{ℕ}
+--   Nested d l             from d open elements on, l leaves none open, at its last tag and not before
+--   WholeTags l            l opens a root, and its nesting is right to the end
+use Prim.Native.Nat.{ℕ, zero, suc}
 use mathlib.Core.Option.{Option, none, some}
 use mathlib.Core.List.{List, [], _∷_, _++_}
 use Rattle.trees.specs.Tree.{Forest, elem, Tree, whole}
@@ -55,3 +57,17 @@ oneTree (some (elem a below (elem b c d) ∷ outer)) = none
 -- the tree of a tag list
 unfoldable pub treeOf : List Tag → Option Tree
 treeOf l = oneTree (rowsOf l)
+
+-- read from the front: no "record after the root closed, or an element open at the end"
+abbrev pub Nested : ℕ → List Tag → Type 0
+Nested zero [] = Unit {0}
+Nested zero (x ∷ l) = ⊥
+Nested (suc d) [] = ⊥
+Nested (suc d) (opens a ∷ l) = Nested (suc (suc d)) l
+Nested (suc d) (closes ∷ l) = Nested d l
+
+-- and no "close with nothing open"
+abbrev pub WholeTags : List Tag → Type 0
+WholeTags [] = ⊥
+WholeTags (opens a ∷ l) = Nested 1 l
+WholeTags (closes ∷ l) = ⊥

@@ -4,7 +4,7 @@
 --   Tree, whole t       one element with nothing beside it, and the forest that it is
 --   Allowed any a       a is a name's code; 0 only where `any` says so
 --   Grown any most t    t is a tree of at most `most` elements, each of whose names is allowed
-use Prim.Native.Nat.{ℕ, zero, suc, _+_, _≤_, _<_}
+use Prim.Native.Nat.{ℕ, suc, _+_, _≤_, _<_}
 use mathlib.Core.Path.{_≡_}
 use mathlib.Core.Bool.{Bool, true, false}
 

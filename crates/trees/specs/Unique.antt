@@ -1,14 +1,13 @@
 -- A list is the signature of at most one tree.
 --   row-unique           entries from one place on are those of at most one row of a given size
 --   signature-unique     two trees with one signature are one tree
-use Prim.Native.Nat.{ℕ, zero, suc, _+_, _*_}
+use Prim.Native.Nat.{ℕ, _+_}
 use mathlib.Core.Path.{_≡_, refl, ap, _∙_, sym, subst}
-use mathlib.Core.List.{List}
 use native.Mathlib.Omega.{arith}
 use lib.ListN.{length}
 use Rattle.trees.specs.Tree.{Forest, none, elem, size, Tree, whole}
-use Rattle.trees.specs.Signature.{Entries, rowSignature, signature}
-use Rattle.trees.specs.Rows.{Entry, Holds}
+use Rattle.trees.specs.Signature.{Entries, signature}
+use Rattle.trees.specs.Rows.{Holds}
 use Rattle.trees.specs.Listed.{listed-whole, signature-length}
 
 elem-eq : {a b : ℕ} {k l r q : Forest} → a ≡ b → k ≡ l → r ≡ q → elem a k r ≡ elem b l q
