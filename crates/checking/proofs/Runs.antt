@@ -1,0 +1,169 @@
+-- Runs of the check: a turn keeps the ranges, and the whole check is never stopped by its budget.
+--   moves-ranges, moves-grow    steps keep the ranges, and each makes next + closed one more
+--   turn-…                      which case of a turn holds under which facts
+--   whole-stops                 the whole check ends or refuses
+use Prim.Native.Nat.{ℕ, zero, suc, _+_, _-_, _*_, _/_, _%_, _≤_, _<_}
+use mathlib.Core.Path.{_≡_, refl, ap, _∙_, sym}
+use mathlib.Core.Logic.{_⊎_, inl, inr}
+use mathlib.Core.List.{List}
+use mathlib.Core.Bool.{Bool, true, false}
+use lib.ListN.{length}
+use lib.Dec.{leb, eqb}
+use native.Mathlib.Omega.{arith}
+use native.Mathlib.Decide.{ℕ-discrete}
+use borrow.Author.Tests.{le-leb, lt-leb, eq-eqb, ne-eqb, eqb-true, eqb-false, leb-true, leb-false}
+use Rattle.turns.specs.Pick.{pick}
+use Rattle.turns.specs.Turn.{Next, moved, answered, refused, Halt, Turned, run, turn, Moves, stay, move, Outcome, ended, spent, faulty}
+use Rattle.turns.specs.Turn as Turns
+use Rattle.turns.specs.Laws.{turn-outcome}
+use Rattle.trees.specs.Signature.{Entries, entriesOf, width}
+use Rattle.checking.specs.declared.CheckState.{CheckState}
+use Rattle.checking.specs.Rule.{stepOf, accepted, Ranges, inRange, fresh}
+use Rattle.checking.specs.declared.CheckTurn.{CheckTurn}
+use Rattle.checking.specs.Turn.{Handed, runOf, spentOf, lengthFault, turnWithin, refusedAt}
+use Rattle.checking.specs.declared.Kind.{Kind}
+use Rattle.checking.specs.declared.Stop.{Stop}
+use Rattle.checking.specs.declared.Verdict.{Verdict}
+use Rattle.checking.specs.declared.Refusal.{Refusal}
+use Rattle.checking.specs.Kinds.{most}
+use Rattle.checking.specs.Stops.{Told, told, haltTold, verdictTold}
+use Rattle.checking.proofs.Cases.{range-yes}
+use Rattle.checking.proofs.Inverse.{step-ranges, step-grows, step-silent}
+
+module _ (any : Bool) (n : ℕ) (e : Entries) where
+  pub moves-ranges : {k : ℕ} {st to : CheckState} → Ranges n st → Moves CheckState (accepted n) (stepOf any n e) k st to → Ranges n to
+  moves-ranges r stay = r
+  moves-ranges r (move h q m) = moves-ranges (step-ranges any n e _ _ r q) m
+
+  pub moves-grow : {k : ℕ} {st to : CheckState} → Moves CheckState (accepted n) (stepOf any n e) k st to
+      → to .next .0 + to .closed .0 ≡ st .next .0 + st .closed .0 + k
+  moves-grow stay = omega arith
+  moves-grow (move h q m) = omega (arith, moves-grow m, step-grows any n e _ _ q)
+
+  -- from the fresh state there are never more than 2 * n steps
+  stops : (b : ℕ) (t : Turned CheckState) → 1 ≤ n → 2 * n < b → Outcome CheckState (accepted n) (stepOf any n e) b fresh t
+      → (t .halt ≡ Halt.end) ⊎ ((number : ℕ) × (entry : ℕ) × (t .halt ≡ Halt.refusal number entry))
+  stops b t s l (ended m h f) = inl refl
+  stops b t s l (Turns.told m h f a) = absurd (step-silent any n e _ _ a)
+  stops b t s l (faulty {number = u} {entry = v} m h f a) = inr (u, v, refl)
+  stops b t s l (spent m f) =
+      let r = moves-ranges (record { some = omega arith; last = omega arith; top = omega arith; closed = omega arith }) m in
+      absurd (omega (arith, moves-grow m, r .last, r .closed))
+
+-- ---- what is handed back
+
+-- handed back is what an equal turn hands back
+pub handed-as : (r : CheckTurn) (t u : Turned CheckState) → t ≡ u → Handed r u → Handed r t
+handed-as r t u q h = rw q h
+
+module _ (n : ℕ) (st : CheckState) (k : ℕ) where
+  pub spent-end : accepted n st ≡ true → spentOf n st k ≡ record { state = st; steps = k; halt = Halt.end }
+  spent-end h = simp h
+
+  pub spent-budget : accepted n st ≡ false → spentOf n st k ≡ record { state = st; steps = k; halt = Halt.budget }
+  spent-budget h = simp h
+
+-- a run with no budget left
+pub run-spent : (any : Bool) (n : ℕ) (e : Entries) (b k : ℕ) (st : CheckState) → b ≡ 0
+    → run CheckState (accepted n) (stepOf any n e) b k st ≡ spentOf n st k
+unfolding run
+run-spent any n e b k st h = simp h
+
+-- ---- the length
+
+module _ (most w l : ℕ) where
+  pub length-empty : l ≡ 0 → lengthFault most w l ≡ 1
+  unfolding lengthFault
+  length-empty h = simp (eq-eqb _ _ h)
+
+  module _ (some : l ≡ 0 → ⊥) where
+    pub length-cut : (l % w ≡ 0 → ⊥) → lengthFault most w l ≡ 1
+    unfolding lengthFault
+    length-cut h = simp (ne-eqb _ _ some, ne-eqb _ _ h)
+
+    module _ (even : l % w ≡ 0) where
+      pub length-over : most < l / w → lengthFault most w l ≡ 7
+      unfolding lengthFault
+      length-over h = simp (ne-eqb _ _ some, eq-eqb _ _ even, lt-leb _ _ h)
+
+      pub length-fine : l / w ≤ most → lengthFault most w l ≡ 0
+      unfolding lengthFault
+      length-fine h = simp (ne-eqb _ _ some, eq-eqb _ _ even, le-leb _ _ h)
+
+  -- a length that is not refused
+  pub record Sized : Type 0 where
+    pub some : l ≡ 0 → ⊥
+    pub even : l % w ≡ 0
+    pub small : l / w ≤ most
+
+  pub length-sized : lengthFault most w l ≡ 0 → Sized
+  unfolding lengthFault
+  length-sized = go (eqb l 0) (eqb (l % w) 0) (leb (l / w) most) refl refl refl
+    where
+      go : (a b c : Bool) → eqb l 0 ≡ a → eqb (l % w) 0 ≡ b → leb (l / w) most ≡ c → _≡_ {A = ℕ} (pick a 1 (pick b (pick c 0 7) 1)) 0 → Sized
+      go true b c ha hb hc h = absurd (omega arith)
+      go false false c ha hb hc h = absurd (omega arith)
+      go false true false ha hb hc h = absurd (omega arith)
+      go false true true ha hb hc h = record { some = eqb-false _ _ ha; even = eqb-true _ _ hb; small = leb-true _ _ hc }
+
+-- ---- a turn
+
+module _ (any : Bool) (most : ℕ) (s : List ℕ) (b : ℕ) (st : CheckState) where
+  pub turn-length : (lengthFault most width (length s) ≡ 0 → ⊥) → turnWithin any most s b st ≡ refusedAt st (lengthFault most width (length s))
+  unfolding turnWithin
+  turn-length h = simp (ne-eqb _ _ h)
+
+  module _ (fine : lengthFault most width (length s) ≡ 0) where
+    pub turn-range : inRange (length s / width) st ≡ false → turnWithin any most s b st ≡ refusedAt st 9
+    unfolding turnWithin
+    turn-range h = simp (eq-eqb _ _ fine, h)
+
+    pub turn-run : inRange (length s / width) st ≡ true → turnWithin any most s b st ≡ runOf any (length s / width) (entriesOf width s) b st
+    unfolding turnWithin
+    turn-run h = simp (eq-eqb _ _ fine, h)
+
+-- what the code's test of the length has shown
+pub fault-none : (k : Kind) (l r : ℕ) → r ≡ lengthFault (most k) width l → r ≡ 0 → lengthFault (most k) width l ≡ 0
+fault-none k l r p q = sym p ∙ q
+
+pub fault-sized : (k : Kind) (l r : ℕ) → r ≡ lengthFault (most k) width l → r ≡ 0 → Sized (most k) width l
+fault-sized k l r p q = length-sized (most k) width l (sym p ∙ q)
+
+-- no kind has more than 4,096 elements
+pub most-small : (k : Kind) → most k ≤ 4096
+most-small Kind.Data = omega arith
+most-small Kind.Twig = omega arith
+
+-- ---- the whole check
+
+-- a check begun fresh, with one step more than the largest tree takes, ends or refuses
+pub whole-stops : (any : Bool) (most : ℕ) (s : List ℕ)
+    → (turnWithin any most s (2 * most + 1) fresh .halt ≡ Halt.end)
+    ⊎ ((number : ℕ) × (entry : ℕ) × (turnWithin any most s (2 * most + 1) fresh .halt ≡ Halt.refusal number entry))
+whole-stops any most s = go (ℕ-discrete (lengthFault most width (length s)) 0)
+  where
+    n : ℕ
+    n = length s / width
+
+    Stopped : Type 0
+    Stopped = (turnWithin any most s (2 * most + 1) fresh .halt ≡ Halt.end)
+        ⊎ ((number : ℕ) × (entry : ℕ) × (turnWithin any most s (2 * most + 1) fresh .halt ≡ Halt.refusal number entry))
+
+    go : Dec (lengthFault most width (length s) ≡ 0) → Stopped
+    go (no h) = inr (_, _, ap (λ (t : Turned CheckState). t .halt) (turn-length any most s (2 * most + 1) fresh h))
+    go (yes h) =
+        let z = length-sized most width (length s) h in
+        rw (turn-run any most s (2 * most + 1) fresh h (range-yes n fresh (record { some = omega arith; last = omega arith; top = omega arith; closed = omega arith })))
+        (stops any n (entriesOf width s) (2 * most + 1) _ (omega (arith, z .some, z .even)) (omega (arith, z .small))
+        (turn-outcome CheckState (accepted n) (stepOf any n (entriesOf width s)) (2 * most + 1) fresh))
+
+-- ---- verdicts
+
+-- a stop reason that is no refusal, of the whole check, is the end
+pub stop-accepted : (x : Stop) (h : Halt) → told x ≡ haltTold h → (h ≡ Halt.end) ⊎ ((number : ℕ) × (entry : ℕ) × (h ≡ Halt.refusal number entry))
+    → ((r : Refusal) → x ≡ Stop.Refused r → ⊥) → verdictTold Verdict.Accepted ≡ haltTold h
+stop-accepted x h q (inl e) n = rw e
+stop-accepted Stop.Answer h q (inr e) n = let w = rw (e .2) at q in let z : _≡_ {A = ℕ} 0 3 = ap (λ (t : Told). t .reason) w in absurd (omega arith)
+stop-accepted Stop.End h q (inr e) n = let w = rw (e .2) at q in let z : _≡_ {A = ℕ} 1 3 = ap (λ (t : Told). t .reason) w in absurd (omega arith)
+stop-accepted Stop.Budget h q (inr e) n = let w = rw (e .2) at q in let z : _≡_ {A = ℕ} 2 3 = ap (λ (t : Told). t .reason) w in absurd (omega arith)
+stop-accepted (Stop.Refused r) h q (inr e) n = absurd (n r refl)

@@ -1,0 +1,6 @@
+-- Checking: the two kinds of tree, stop reasons in numbers, the written rule of the check, a turn of it, and the whole check.
+pub mod Kinds
+pub mod Stops
+pub mod Rule
+pub mod Turn
+pub mod Whole
