@@ -20,7 +20,8 @@ use Rattle.trees.specs.Signature.{Entries, entriesOf, width}
 use Rattle.checking.specs.declared.CheckState.{CheckState}
 use Rattle.checking.specs.Rule.{stepOf, accepted, Ranges, inRange, fresh}
 use Rattle.checking.specs.declared.CheckTurn.{CheckTurn}
-use Rattle.checking.specs.Turn.{Handed, runOf, spentOf, lengthFault, turnWithin, refusedAt}
+use Rattle.checking.specs.Turn.{Handed, runOf, spentOf, lengthFault, turnWithin, turnOf, refusedAt, TurnPromise}
+use Rattle.checking.specs.Whole.{wholeOf}
 use Rattle.checking.specs.declared.Kind.{Kind}
 use Rattle.checking.specs.declared.Stop.{Stop}
 use Rattle.checking.specs.declared.Verdict.{Verdict}
@@ -167,3 +168,12 @@ stop-accepted Stop.Answer h q (inr e) n = let w = rw (e .2) at q in let z : _≡
 stop-accepted Stop.End h q (inr e) n = let w = rw (e .2) at q in let z : _≡_ {A = ℕ} 1 3 = ap (λ (t : Told). t .reason) w in absurd (omega arith)
 stop-accepted Stop.Budget h q (inr e) n = let w = rw (e .2) at q in let z : _≡_ {A = ℕ} 2 3 = ap (λ (t : Told). t .reason) w in absurd (omega arith)
 stop-accepted (Stop.Refused r) h q (inr e) n = absurd (n r refl)
+
+-- what a turn with these arguments says is what the whole check says
+pub whole-is : (k : Kind) (s : List ℕ) (b : ℕ) (st : CheckState) (r : CheckTurn) → TurnPromise k s b st r → st ≡ fresh → b ≡ 2 * most k + 1
+    → told (r .stop) ≡ wholeOf k s
+whole-is k s b st r p q e = p .stop ∙ ap (λ (x : CheckState). haltTold (turnOf k s b x .halt)) q ∙ ap (λ (x : ℕ). haltTold (turnOf k s x fresh .halt)) e
+
+-- the same run, told in another way whether name 0 is allowed
+pub run-any : (a c : Bool) (n : ℕ) (e : Entries) (b : ℕ) (st : CheckState) → a ≡ c → runOf c n e b st ≡ runOf a n e b st
+run-any a c n e b st q = ap (λ (x : Bool). runOf x n e b st) (sym q)

@@ -3,12 +3,15 @@
 --   told s          those of the code's stop reason
 --   haltTold h      those of what stopped a turn
 --   verdictTold v   those of the whole check's verdict
+--   Answered        what a single call answers, in numbers: the refusal's number (0: it worked), the result's length, the entry
+--   answered w      those of the code's answer
 use Prim.Native.Nat.{ℕ}
 use mathlib.Core.Bool.{Bool, true, false}
 use Rattle.turns.specs.Turn.{Halt}
 use Rattle.checking.specs.declared.Stop.{Stop}
 use Rattle.checking.specs.declared.Verdict.{Verdict}
 use Rattle.checking.specs.declared.Refusal.{Refusal}
+use Rattle.checking.specs.declared.Written.{Written}
 
 -- which of the four: 0 an answer, 1 the end, 2 the budget, 3 a refusal; then the refusal's number and entry, or 0 and 0
 pub record Told : Type 0 where
@@ -34,3 +37,14 @@ haltTold (Halt.refusal number entry) = record { reason = 3; number = number; ent
 abbrev pub verdictTold : Verdict → Told
 verdictTold Verdict.Accepted = record { reason = 1; number = 0; entry = 0 }
 verdictTold (Verdict.Refused r) = record { reason = 3; number = r .number; entry = r .entry .0 }
+
+-- "A refused single call returns its number and 0 for every other number"; 3 to 6 from the check also name the entry
+pub record Answered : Type 0 where
+  pub number : ℕ
+  pub length : ℕ
+  pub entry : ℕ
+
+-- what a call that writes into lent room answers
+abbrev pub answered : Written → Answered
+answered (Written.Length l) = record { number = 0; length = l; entry = 0 }
+answered (Written.Refused r) = record { number = r .number; length = 0; entry = r .entry .0 }

@@ -69,6 +69,12 @@ pub enum Verdict {
     Refused(Refusal),
 }
 
+// What a single call that writes into lent room answers: how long the result is, in the room's units, or the refusal.
+pub enum Written {
+    Length(usize),
+    Refused(Refusal),
+}
+
 // What one step comes to.
 enum Stepped {
     Moved(CheckState),
@@ -104,6 +110,21 @@ fn number(sig: &[u16], wide: usize, i: u16, k: usize) -> u16
 {
     let at = i as usize;
     sig[wide * (at - 1) + k]
+}
+
+// Number k of entry i for every caller: 0 where the signature has no such number.
+pub fn entry_number(sig: &[u16], i: PreRank, k: u16) -> u16
+    ensures { λ r. ⌜ r ≡ cell width (now (sig .entry)) (i .0) k ⌝ }
+{
+    let rank = i.0 as usize;
+    let mut at = k as usize;
+    if 0 < rank {
+        at = 4 * (rank - 1) + (k as usize);
+    }
+    if at < sig.len() {
+        return sig[at];
+    }
+    0
 }
 
 // Rules 3 and 4: the innermost open element is closed.
