@@ -112,19 +112,25 @@ fn number(sig: &[u16], wide: usize, i: u16, k: usize) -> u16
     sig[wide * (at - 1) + k]
 }
 
+// The number at a place, or 0 past the end.
+fn number_or_zero(sig: &[u16], at: usize) -> u16
+    ensures { λ r. ⌜ r ≡ getD (now (sig .entry)) at 0 ⌝ }
+{
+    if at < sig.len() {
+        return sig[at];
+    }
+    0
+}
+
 // Number k of entry i for every caller: 0 where the signature has no such number.
 pub fn entry_number(sig: &[u16], i: PreRank, k: u16) -> u16
     ensures { λ r. ⌜ r ≡ cell width (now (sig .entry)) (i .0) k ⌝ }
 {
     let rank = i.0 as usize;
-    let mut at = k as usize;
-    if 0 < rank {
-        at = 4 * (rank - 1) + (k as usize);
+    if rank == 0 {
+        return number_or_zero(sig, k as usize);
     }
-    if at < sig.len() {
-        return sig[at];
-    }
-    0
+    number_or_zero(sig, 4 * (rank - 1) + (k as usize))
 }
 
 // Rules 3 and 4: the innermost open element is closed.

@@ -1,43 +1,56 @@
+use mathlib.Core.Path.{_∙_}
+use Rattle.trees.specs.Signature.{cell}
+use Rattle.checking.proofs.Cases.{number-first}
 use native.Mathlib.Omega.{arith}
 use borrow.Author.Needs.{needs}
 use Rattle.checking.proofs.entry_number.Statement.{statement}
 use Rattle.checking.proofs.entry_number.Tie as tie
 use Rattle.checking.proofs.entry_number.Reads as reads
 use Rattle.checking.proofs.entry_number.Lts as lts
+use Rattle.checking.proofs.number_or_zero.Reads as number-or-zero-reads
 
--- src/lib.rt:119:16
+-- src/lib.rt:129:16
 cast-rank : tie.Need-cast-rank
 cast-rank c = search needs
 
--- src/lib.rt:122:19
-sub-at : tie.Need-sub-at
-sub-at c = search needs
+-- src/lib.rt:131:9
+number-or-zero-requires : tie.Need-number-or-zero-requires
+number-or-zero-requires c κs = search needs
 
--- src/lib.rt:122:14
-mul-at : tie.Need-mul-at
-mul-at c = search needs
-
--- src/lib.rt:122:14
-add-at : tie.Need-add-at
-add-at c = search needs
-
--- src/lib.rt:125:16
-mul-result : tie.Need-mul-result
-mul-result c = search needs
-
--- src/lib.rt:125:16
-shared-slice-read-result : tie.Need-shared-slice-read-result
-shared-slice-read-result c = search needs
-
--- src/lib.rt:125:9
+-- src/lib.rt:131:9
 returns : tie.Need-returns
-returns c = search needs
+returns c = c .number-or-zero .ensures ∙ number-first _ _ _ (omega arith)
 
--- src/lib.rt:116:1
+-- src/lib.rt:133:30
+sub-number-or-zero : tie.Need-sub-number-or-zero
+sub-number-or-zero c = search needs
+
+-- src/lib.rt:133:25
+mul-number-or-zero : tie.Need-mul-number-or-zero
+mul-number-or-zero c = search needs
+
+-- src/lib.rt:133:25
+add-number-or-zero : tie.Need-add-number-or-zero
+add-number-or-zero c = search needs
+
+-- src/lib.rt:133:5
+number-or-zero-requires-2 : tie.Need-number-or-zero-requires-2
+number-or-zero-requires-2 c κs = search needs
+
+-- src/lib.rt:126:1
 returns-2 : tie.Need-returns-2
+unfolding cell
 returns-2 c = search needs
 
 pub entry-number-spec : {M : Type 1} → statement M
 entry-number-spec =
     tie.close
-    (tie.spec cast-rank sub-at mul-at add-at mul-result shared-slice-read-result returns returns-2)
+    (tie.spec
+    cast-rank
+    number-or-zero-requires
+    returns
+    sub-number-or-zero
+    mul-number-or-zero
+    add-number-or-zero
+    number-or-zero-requires-2
+    returns-2)
