@@ -20,7 +20,7 @@ returns c = search needs
 
 -- src/lib.rt:116:1
 returns-2 : tie.Need-returns-2
-returns-2 c = number-past (c .before .before .args .sig .now) (c .before .before .args .at) (omega arith)
+returns-2 c = number-past (c .before .args .sig .now) (c .before .args .at) (omega arith)
 
 pub number-or-zero-spec : {M : Type 1} → statement M
 number-or-zero-spec = tie.close (tie.spec mul-result shared-slice-read-result returns returns-2)
