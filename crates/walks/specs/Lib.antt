@@ -1,0 +1,4 @@
+-- Walks: one walk that sets the images of nodes one after the other, over any ranges and any test, with its laws.
+pub mod Every
+pub mod Walking
+pub mod Answers

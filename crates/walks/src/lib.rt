@@ -1,0 +1,1 @@
+// Layer 2, walks: no code. Its laws stand in specs/.
