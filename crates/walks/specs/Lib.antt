@@ -2,3 +2,4 @@
 pub mod Every
 pub mod Walking
 pub mod Answers
+pub mod Ranges
