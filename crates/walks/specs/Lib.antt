@@ -3,3 +3,6 @@ pub mod Every
 pub mod Walking
 pub mod Answers
 pub mod Ranges
+pub mod Comparing
+pub mod Stepping
+pub mod Listing
