@@ -2,7 +2,7 @@
 --   Every P l       P holds of each entry
 --   Pairs R l       R holds of each two entries, the earlier one first
 --   every-append, every-weaken, every-member, every-of, every-flat   laws of Every
---   pairs-append, pairs-weaken, pairs-flat                           laws of Pairs
+--   pairs-append, pairs-weaken, pairs-flat, pairs-unique             laws of Pairs
 --   flat-member, flat-has                                            what a list of lists joined has
 use mathlib.Core.Path.{_≡_, refl, ap, sym, _∙_, subst}
 use mathlib.Core.Logic.{_⊎_, inl, inr}
@@ -49,6 +49,31 @@ module _ {A : Type 0} where
   pub pairs-weaken : {R T : A → A → Type 0} → ((x y : A) → R x y → T x y) → (l : List A) → Pairs R l → Pairs T l
   pairs-weaken w [] h = tt
   pairs-weaken w (x ∷ l) h = (every-weaken (w x) l (h .0), pairs-weaken w l (h .1))
+
+  -- a list in which each entry is R to those after it is determined by what it has
+  module _ (R : A → A → Type 0) (never : (x : A) → R x x → ⊥) (trans : (x y z : A) → R x y → R y z → R x z) where
+    pub pairs-unique : (l r : List A) → Pairs R l → Pairs R r → ((z : A) → List·Memᴰ z l → List·Memᴰ z r)
+        → ((z : A) → List·Memᴰ z r → List·Memᴰ z l) → l ≡ r
+    pairs-unique [] [] p q h k = refl
+    pairs-unique [] (y ∷ r) p q h k = absurd (List·Memᴰ·not-nil (k y (List·Memᴰ·head refl)))
+    pairs-unique (x ∷ l) [] p q h k = absurd (List·Memᴰ·not-nil (h x (List·Memᴰ·head refl)))
+    pairs-unique (x ∷ l) (y ∷ r) p q h k =
+        let e = heads (List·Memᴰ·cases-cons (h x (List·Memᴰ·head refl))) (List·Memᴰ·cases-cons (k y (List·Memᴰ·head refl))) in
+        let t =
+            pairs-unique l r (p .1) (q .1)
+            (λ z m. other (p .0) m (sym e) (List·Memᴰ·cases-cons (h z (List·Memᴰ·tail m))))
+            (λ z m. other (q .0) m e (List·Memᴰ·cases-cons (k z (List·Memᴰ·tail m)))) in
+        cc
+      where
+        heads : (x ≡ y) ⊎ List·Memᴰ x r → (y ≡ x) ⊎ List·Memᴰ y l → x ≡ y
+        heads (inl e) b = e
+        heads (inr m) (inl e) = sym e
+        heads (inr m) (inr n) = absurd (never x (trans x y x (every-member (R x) l (p .0) n) (every-member (R y) r (q .0) m)))
+
+        -- an entry after the first is not the first
+        other : {a b z : A} {s t : List A} → Every (R a) s → List·Memᴰ z s → b ≡ a → (z ≡ b) ⊎ List·Memᴰ z t → List·Memᴰ z t
+        other {a} {s = s} w m e (inl g) = absurd (never a (subst (R a) (g ∙ e) (every-member (R a) s w m)))
+        other w m e (inr n) = n
 
 module _ {A B : Type 0} (f : A → List B) where
   -- what a list of lists joined has

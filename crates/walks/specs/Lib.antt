@@ -6,3 +6,6 @@ pub mod Ranges
 pub mod Comparing
 pub mod Stepping
 pub mod Listing
+pub mod Plain
+pub mod Within
+pub mod Falling
