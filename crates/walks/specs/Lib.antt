@@ -7,5 +7,5 @@ pub mod Comparing
 pub mod Stepping
 pub mod Listing
 pub mod Plain
-pub mod Within
+pub mod Potential
 pub mod Falling
