@@ -9,3 +9,4 @@ pub mod Listing
 pub mod Plain
 pub mod Potential
 pub mod Falling
+pub mod Within
