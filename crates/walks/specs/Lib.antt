@@ -10,3 +10,4 @@ pub mod Plain
 pub mod Potential
 pub mod Falling
 pub mod Within
+pub mod Order
