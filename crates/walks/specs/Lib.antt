@@ -11,3 +11,5 @@ pub mod Potential
 pub mod Falling
 pub mod Within
 pub mod Order
+pub mod Chained
+pub mod Telling
