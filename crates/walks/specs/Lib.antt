@@ -13,3 +13,5 @@ pub mod Within
 pub mod Order
 pub mod Chained
 pub mod Telling
+pub mod Remaining
+pub mod Seeking
