@@ -15,3 +15,4 @@ pub mod Chained
 pub mod Telling
 pub mod Remaining
 pub mod Seeking
+pub mod Starting
