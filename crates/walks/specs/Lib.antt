@@ -4,6 +4,7 @@ pub mod Walking
 pub mod Answers
 pub mod Ranges
 pub mod Comparing
+pub mod Preorder
 pub mod Stepping
 pub mod Listing
 pub mod Plain
