@@ -13,6 +13,7 @@ pub mod Falling
 pub mod Within
 pub mod Order
 pub mod Chained
+pub mod Mirror
 pub mod Telling
 pub mod Remaining
 pub mod Seeking
