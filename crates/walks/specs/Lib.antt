@@ -18,3 +18,4 @@ pub mod Telling
 pub mod Remaining
 pub mod Seeking
 pub mod Starting
+pub mod Worked
