@@ -3,14 +3,12 @@
 --   AllButLast Q c     Q holds of what each turn but the last handed back
 --   chain-last         the last turn of a chain is a turn
 --   chain-one          where each turn but the last spent its budget, the chain is one turn with all budgets
-use Prim.Native.Nat.{ℕ, zero, suc, _+_}
-use mathlib.Core.Path.{_≡_, refl, ap, _∙_, sym, subst}
-use mathlib.Core.Bool.{Bool, true, false}
-use mathlib.Core.List.{List, [], _∷_, _++_}
+use Prim.Native.Nat.{ℕ, _+_}
+use mathlib.Core.Path.{_≡_, refl, ap, _∙_, sym}
+use mathlib.Core.Bool.{Bool, true}
+use mathlib.Core.List.{List, _++_}
 use native.Mathlib.Omega.{arith}
-use Rattle.turns.specs.Turn.{
-  Next, Halt, answer, end, budget, refusal, Turned, turn, Outcome, ended, spent, told as tells, faulty
-}
+use Rattle.turns.specs.Turn.{Next, end, budget, Turned, turn, Outcome, ended, spent, told as tells, faulty}
 use Rattle.turns.specs.Laws.{turn-outcome, after}
 use Rattle.turns.specs.Chains.{Chain, one, more, Turns, turn-cut}
 

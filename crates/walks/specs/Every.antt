@@ -4,7 +4,7 @@
 --   every-append, every-weaken, every-member, every-of, every-flat   laws of Every
 --   pairs-append, pairs-weaken, pairs-flat, pairs-unique             laws of Pairs
 --   flat-member, flat-has                                            what a list of lists joined has
-use mathlib.Core.Path.{_≡_, refl, ap, sym, _∙_, subst}
+use mathlib.Core.Path.{_≡_, refl, sym, _∙_, subst}
 use mathlib.Core.Logic.{_⊎_, inl, inr}
 use mathlib.Core.List.{
   List, [], _∷_, _++_, flatMap, List·Memᴰ, List·Memᴰ·head, List·Memᴰ·tail, List·Memᴰ·not-nil, List·Memᴰ·cases-cons,

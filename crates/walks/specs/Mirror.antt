@@ -8,13 +8,11 @@
 use Prim.Native.Nat.{ℕ, zero, suc, _+_}
 use mathlib.Core.Path.{_≡_, refl, ap, ap₂, _∙_, sym, subst}
 use mathlib.Core.Bool.{Bool, true, false}
-use mathlib.Core.List.{List, [], _∷_, _++_}
-use Rattle.turns.specs.Turn.{
-  Next, moved, answered, refused, Halt, Turned, run, turn, Moves, stay, move, Step, on, found, Steps, none, then
-}
+use mathlib.Core.List.{List, _++_}
+use Rattle.turns.specs.Turn.{Next, moved, answered, refused, Turned, run, turn, Step, on, Steps, none, then}
 use Rattle.turns.specs.Laws.{run-end, run-budget, run-refused, run-answer, run-moved}
 use Rattle.turns.specs.Counts.{counted}
-use Rattle.turns.specs.Chains.{Chain, one, more, Turns}
+use Rattle.turns.specs.Chains.{one, more, Turns}
 use Rattle.walks.specs.Chained.{told, AllButLast}
 use native.Mathlib.Omega.{arith}
 

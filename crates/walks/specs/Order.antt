@@ -4,13 +4,12 @@
 --   On a b           the walk b is further on than a: it has ended and a has not, or its mark is later
 --   step-on          every step leads on
 --   walk-count-unique   no two counts of steps join the same two states
-use Prim.Native.Nat.{ℕ, zero, suc, _+_, _<_}
-use mathlib.Core.Path.{_≡_, refl, ap, _∙_, sym, subst}
+use Prim.Native.Nat.{ℕ, suc, _+_}
+use mathlib.Core.Path.{_≡_, refl, subst}
 use mathlib.Core.Logic.{_⊎_, inl, inr}
-use mathlib.Core.Bool.{Bool, true, false}
+use mathlib.Core.Bool.{true, false}
 use mathlib.Core.List.{List, [], _∷_}
 use native.Mathlib.Omega.{arith}
-use lib.ListN.{length}
 use Rattle.turns.specs.Turn.{Next, moved, answered, refused, Step, on, found, Steps}
 use Rattle.turns.specs.Counts.{count-unique}
 use Rattle.walks.specs.Walking.{Choices, Rising, Walk, walking, atAnswer, atEnd, walkDone, walkStep}

@@ -5,19 +5,19 @@
 --   five-bounded     the ranges are bounded, and no range of the second node fails
 --   five-within      so 21 steps lead from the fresh state to an answer or to the end
 --   five-above       the least answer greater than 1 5 is 3 4, and there is none greater than 3 5
-use Prim.Native.Nat.{ℕ, zero, suc, _+_, _≤_, _<_}
-use mathlib.Core.Path.{_≡_, refl, ap, _∙_, sym, subst}
+use Prim.Native.Nat.{ℕ, zero, suc, _≤_, _<_}
+use mathlib.Core.Path.{_≡_, refl}
 use mathlib.Core.Logic.{_⊎_}
-use mathlib.Core.Bool.{Bool, true, false}
+use mathlib.Core.Bool.{Bool, true}
 use mathlib.Core.List.{List, [], _∷_, reverse, map}
 use native.Mathlib.Omega.{arith}
-use lib.Dec.{ltb, leb}
+use lib.Dec.{ltb}
 use lib.ListN.{length, getD}
 use borrow.Author.Tests.{ltb-true}
-use Rattle.turns.specs.Turn.{answer, end, Turned, run}
+use Rattle.turns.specs.Turn.{answer, end, run}
 use Rattle.turns.specs.Chains.{one, more}
-use Rattle.walks.specs.Walking.{Choices, Walk, walking, atAnswer, atEnd, fresh, walkTurn, walkStep, try, backFrom, setTo, passing, passingOf, answersFrom}
-use Rattle.walks.specs.Answers.{Reached, here, Fits, Good}
+use Rattle.walks.specs.Walking.{Choices, atEnd, fresh, walkTurn, walkStep, try, backFrom, setTo, passing, passingOf, answersFrom}
+use Rattle.walks.specs.Answers.{here, Fits, Good}
 use Rattle.walks.specs.Plain.{Plain, plain-rising}
 use Rattle.walks.specs.Potential.{Bounded}
 use Rattle.walks.specs.Falling.{fresh-way}
