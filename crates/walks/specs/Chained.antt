@@ -49,7 +49,8 @@ module _ (S : Type 0) (finished : S → Bool) (step : S → Next S) where
 
   -- ---- chains
 
-  pub chain-last : {st : S} {B K : ℕ} {t : Turned S} → Turns S finished step st B K t → (b : ℕ) × (mid : S) × (t ≡ turn S finished step b mid)
+  pub chain-last : {st : S} {B K : ℕ} {t : Turned S} → Turns S finished step st B K t
+      → (b : ℕ) × (mid : S) × (t ≡ turn S finished step b mid)
   chain-last {st} (one {b = b} e) = (b, st, e)
   chain-last (more e c) = chain-last c
 

@@ -6,10 +6,8 @@
 --   flat-member, flat-has                                            what a list of lists joined has
 use mathlib.Core.Path.{_≡_, refl, sym, _∙_, subst}
 use mathlib.Core.Logic.{_⊎_, inl, inr}
-use mathlib.Core.List.{
-  List, [], _∷_, _++_, flatMap, List·Memᴰ, List·Memᴰ·head, List·Memᴰ·tail, List·Memᴰ·not-nil, List·Memᴰ·cases-cons,
-  List·Memᴰ·append-cases, Memᴰ·append-left, Memᴰ·append-right
-}
+use mathlib.Core.List.{List, [], _∷_, _++_, flatMap, List·Memᴰ, List·Memᴰ·head, List·Memᴰ·tail, List·Memᴰ·not-nil, List·Memᴰ·cases-cons}
+use mathlib.Core.List.{List·Memᴰ·append-cases, Memᴰ·append-left, Memᴰ·append-right}
 
 module _ {A : Type 0} where
   -- P holds of each entry
@@ -60,9 +58,9 @@ module _ {A : Type 0} where
     pairs-unique (x ∷ l) (y ∷ r) p q h k =
         let e = heads (List·Memᴰ·cases-cons (h x (List·Memᴰ·head refl))) (List·Memᴰ·cases-cons (k y (List·Memᴰ·head refl))) in
         let t =
-            pairs-unique l r (p .1) (q .1)
-            (λ z m. other (p .0) m (sym e) (List·Memᴰ·cases-cons (h z (List·Memᴰ·tail m))))
-            (λ z m. other (q .0) m e (List·Memᴰ·cases-cons (k z (List·Memᴰ·tail m)))) in
+        pairs-unique l r (p .1) (q .1)
+        (λ z m. other (p .0) m (sym e) (List·Memᴰ·cases-cons (h z (List·Memᴰ·tail m))))
+        (λ z m. other (q .0) m e (List·Memᴰ·cases-cons (k z (List·Memᴰ·tail m)))) in
         cc
       where
         heads : (x ≡ y) ⊎ List·Memᴰ x r → (y ≡ x) ⊎ List·Memᴰ y l → x ≡ y

@@ -1,5 +1,5 @@
--- A rule that mirrors another: where each state of the one stands for a state of the other and their steps agree, so do their turns and chains.
--- The walk's written state, with its room of images, is such a mirror of the walk here.
+-- A rule that mirrors another: where each state of the one stands for a state of the other and their steps agree, so do their turns and
+-- chains. The walk's written state, with its room of images, is such a mirror of the walk here.
 --   asNext, asTurned   what a step comes to and what a turn hands back, read in the other rule's states
 --   Mirrors            finished and step agree on the states for which Inv holds, and steps keep Inv
 --   turn-mirrored      then a turn of the one is a turn of the other
@@ -25,7 +25,8 @@ module _ {S T : Type 0} (show : S → T) where
   abbrev pub asTurned : Turned S → Turned T
   asTurned t = record { state = show (t .state); steps = t .steps; halt = t .halt }
 
-module _ {S T : Type 0} (show : S → T) (Inv : S → Type 0) (done : S → Bool) (step : S → Next S) (done′ : T → Bool) (step′ : T → Next T) where
+module _ {S T : Type 0} (show : S → T) (Inv : S → Type 0) (done : S → Bool) (step : S → Next S) (done′ : T → Bool)
+    (step′ : T → Next T) where
   pub record Mirrors : Type 0 where
     pub done-same : (s : S) → Inv s → done′ (show s) ≡ done s
     pub step-same : (s : S) → Inv s → done s ≡ false → step′ (show s) ≡ asNext show (step s)
@@ -38,22 +39,27 @@ module _ {S T : Type 0} (show : S → T) (Inv : S → Type 0) (done : S → Bool
         by : (a : Bool) → done s ≡ a → run T done′ step′ 0 k (show s) ≡ asTurned show (run S done step 0 k s)
         by true h = run-end T done′ step′ 0 k (show s) (mirror .done-same s i ∙ h) ∙ ap (asTurned show) (sym (run-end S done step 0 k s h))
         by false h =
-            run-budget T done′ step′ k (show s) (mirror .done-same s i ∙ h) 0 refl ∙ ap (asTurned show) (sym (run-budget S done step k s h 0 refl))
+            run-budget T done′ step′ k (show s) (mirror .done-same s i ∙ h) 0 refl
+            ∙ ap (asTurned show) (sym (run-budget S done step k s h 0 refl))
     run-mirrored (suc b) k s i = by (done s) (step s) refl refl (λ to. run-mirrored b (k + 1) to)
       where
         by : (a : Bool) (x : Next S) → done s ≡ a → step s ≡ x
             → ((to : S) → Inv to → run T done′ step′ b (k + 1) (show to) ≡ asTurned show (run S done step b (k + 1) to))
             → run T done′ step′ (suc b) k (show s) ≡ asTurned show (run S done step (suc b) k s)
-        by true x h e ih = run-end T done′ step′ (suc b) k (show s) (mirror .done-same s i ∙ h) ∙ ap (asTurned show) (sym (run-end S done step (suc b) k s h))
+        by true x h e ih =
+            run-end T done′ step′ (suc b) k (show s) (mirror .done-same s i ∙ h)
+            ∙ ap (asTurned show) (sym (run-end S done step (suc b) k s h))
         by false (moved to) h e ih =
             run-moved T done′ step′ k (show s) (mirror .done-same s i ∙ h) b (show to) (mirror .step-same s i h ∙ ap (asNext show) e)
             ∙ ih to (mirror .keeps s to i (on h e))
             ∙ ap (asTurned show) (sym (run-moved S done step k s h b to e))
         by false (answered to) h e ih =
-            run-answer T done′ step′ k (show s) (mirror .done-same s i ∙ h) (suc b) (show to) (omega arith) (mirror .step-same s i h ∙ ap (asNext show) e)
+            run-answer T done′ step′ k (show s) (mirror .done-same s i ∙ h) (suc b) (show to) (omega arith)
+            (mirror .step-same s i h ∙ ap (asNext show) e)
             ∙ ap (asTurned show) (sym (run-answer S done step k s h (suc b) to (omega arith) e))
         by false (refused u v) h e ih =
-            run-refused T done′ step′ k (show s) (mirror .done-same s i ∙ h) (suc b) u v (omega arith) (mirror .step-same s i h ∙ ap (asNext show) e)
+            run-refused T done′ step′ k (show s) (mirror .done-same s i ∙ h) (suc b) u v (omega arith)
+            (mirror .step-same s i h ∙ ap (asNext show) e)
             ∙ ap (asTurned show) (sym (run-refused S done step k s h (suc b) u v (omega arith) e))
 
     -- a turn of the one is a turn of the other

@@ -80,7 +80,8 @@ module _ (ch : Choices) (rise : Rising ch) where
 
   step-further : (w : Walk) → walkDone w ≡ false → Further (mark w) (walkStep ch w)
   step-further (walking r c xs) h = tried-further (step-walking ch r c xs)
-  step-further (atAnswer x xs) h = further-later (walkStep ch (atAnswer x xs)) (greater (later (less (rise xs x) same))) (tried-further (step-answer ch x xs))
+  step-further (atAnswer x xs) h =
+      further-later (walkStep ch (atAnswer x xs)) (greater (later (less (rise xs x) same))) (tried-further (step-answer ch x xs))
   step-further atEnd h = let z : _≡_ {A = ℕ} 0 1 = cc in absurd (omega arith)
 
   pub step-on : (a b : Walk) → Step Walk walkDone (walkStep ch) a b → On a b

@@ -9,7 +9,7 @@ use Prim.Native.Nat.{ℕ, zero, suc, _≤_, _<_}
 use mathlib.Core.Path.{_≡_, refl}
 use mathlib.Core.Logic.{_⊎_}
 use mathlib.Core.Bool.{Bool, true}
-use mathlib.Core.List.{List, [], _∷_, reverse, map}
+use mathlib.Core.List.{List, [], _∷_, reverse, map, flatMap}
 use native.Mathlib.Omega.{arith}
 use lib.Dec.{ltb}
 use lib.ListN.{length, getD}
@@ -25,7 +25,7 @@ use Rattle.walks.specs.Within.{way-within, turn-arrives}
 use Rattle.walks.specs.Chained.{told}
 use Rattle.walks.specs.Telling.{tell, WalkTurns}
 use Rattle.walks.specs.Seeking.{Least, None}
-use Rattle.walks.specs.Starting.{startAbove, above-answer, above-none}
+use Rattle.walks.specs.Starting.{fitsNow, firstAbove, startAbove, above-answer, above-none}
 
 -- ff of each entry; past the last one, one more than there are
 abbrev ff : ℕ → ℕ
@@ -51,15 +51,16 @@ five-plain xs c = refl
 
 pub five-listed : map reverse (answersFrom five 2 [])
     ≡ (1 ∷ 2 ∷ []) ∷ (1 ∷ 3 ∷ []) ∷ (1 ∷ 4 ∷ []) ∷ (1 ∷ 5 ∷ []) ∷ (3 ∷ 4 ∷ []) ∷ (3 ∷ 5 ∷ []) ∷ []
-unfolding answersFrom passing passingOf mathlib.Core.List.flatMap
+unfolding answersFrom passing passingOf flatMap
 five-listed = refl
 
 pub five-chain : WalkTurns five (fresh five 1) 63 14 (record { state = atEnd; steps = 4; halt = end })
 unfolding run walkStep try backFrom setTo
-five-chain = more {b = 9} refl (more {b = 9} refl (more {b = 9} refl (more {b = 9} refl (more {b = 9} refl (more {b = 9} refl (one {b = 9} refl))))))
+five-chain =
+    more {b = 9} refl (more {b = 9} refl (more {b = 9} refl (more {b = 9} refl (more {b = 9} refl (more {b = 9} refl (one {b = 9} refl))))))
 
 pub five-told : map reverse (told tell five-chain) ≡ map reverse (answersFrom five 2 [])
-unfolding five-chain told answersFrom passing passingOf mathlib.Core.List.flatMap
+unfolding five-chain told answersFrom passing passingOf flatMap
 five-told = refl
 
 -- ---- the premise of the limits
@@ -94,9 +95,9 @@ five-within =
 -- ---- the least answer greater than a tuple
 
 pub five-above : Least five (5 ∷ 1 ∷ []) (4 ∷ 3 ∷ [])
-unfolding run walkStep try backFrom setTo startAbove Rattle.walks.specs.Starting.fitsNow Rattle.walks.specs.Starting.firstAbove
+unfolding run walkStep try backFrom setTo startAbove fitsNow firstAbove
 five-above = above-answer five five-plain 1 (5 ∷ []) 21 refl
 
 pub five-none : None five (5 ∷ 3 ∷ [])
-unfolding run walkStep try backFrom setTo startAbove Rattle.walks.specs.Starting.fitsNow Rattle.walks.specs.Starting.firstAbove
+unfolding run walkStep try backFrom setTo startAbove fitsNow firstAbove
 five-none = above-none five five-plain 3 (5 ∷ []) 21 refl
