@@ -5,6 +5,7 @@ pub mod Answers
 pub mod Ranges
 pub mod Comparing
 pub mod Preorder
+pub mod Room
 pub mod Stepping
 pub mod Listing
 pub mod Plain
