@@ -1,6 +1,8 @@
 -- Chains of turns over any rule: what their turns told, and those in which only the last turn was stopped by more than its budget.
 --   told tell c        what the turns of the chain c told, in order
 --   AllButLast Q c     Q holds of what each turn but the last handed back
+--   turn-spent         stopped by its budget, a turn took just that many steps
+--   turn-ended         the end is reported of a finished state only
 --   chain-last         the last turn of a chain is a turn
 --   chain-one          where each turn but the last spent its budget, the chain is one turn with all budgets
 use Prim.Native.Nat.{ℕ, _+_}

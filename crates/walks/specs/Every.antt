@@ -4,7 +4,7 @@
 --   every-append, every-weaken, every-member, every-of, every-flat   laws of Every
 --   pairs-append, pairs-weaken, pairs-flat, pairs-unique             laws of Pairs
 --   flat-member, flat-has                                            what a list of lists joined has
-use mathlib.Core.Path.{_≡_, refl, sym, _∙_, subst}
+use mathlib.Core.Path.{_≡_, refl, ap₂, sym, _∙_, subst}
 use mathlib.Core.Logic.{_⊎_, inl, inr}
 use mathlib.Core.List.{List, [], _∷_, _++_, flatMap, List·Memᴰ, List·Memᴰ·head, List·Memᴰ·tail, List·Memᴰ·not-nil, List·Memᴰ·cases-cons}
 use mathlib.Core.List.{List·Memᴰ·append-cases, Memᴰ·append-left, Memᴰ·append-right}
@@ -57,11 +57,9 @@ module _ {A : Type 0} where
     pairs-unique (x ∷ l) [] p q h k = absurd (List·Memᴰ·not-nil (h x (List·Memᴰ·head refl)))
     pairs-unique (x ∷ l) (y ∷ r) p q h k =
         let e = heads (List·Memᴰ·cases-cons (h x (List·Memᴰ·head refl))) (List·Memᴰ·cases-cons (k y (List·Memᴰ·head refl))) in
-        let t =
-        pairs-unique l r (p .1) (q .1)
-        (λ z m. other (p .0) m (sym e) (List·Memᴰ·cases-cons (h z (List·Memᴰ·tail m))))
-        (λ z m. other (q .0) m e (List·Memᴰ·cases-cons (k z (List·Memᴰ·tail m)))) in
-        cc
+        ap₂ (λ (a : A) (s : List A). a ∷ s) e
+        (pairs-unique l r (p .1) (q .1) (λ z m. other (p .0) m (sym e) (List·Memᴰ·cases-cons (h z (List·Memᴰ·tail m))))
+        (λ z m. other (q .0) m e (List·Memᴰ·cases-cons (k z (List·Memᴰ·tail m)))))
       where
         heads : (x ≡ y) ⊎ List·Memᴰ x r → (y ≡ x) ⊎ List·Memᴰ y l → x ≡ y
         heads (inl e) b = e

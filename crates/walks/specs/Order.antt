@@ -2,6 +2,7 @@
 --   mark w           the images and the candidate, or the images of an answer, latest first
 --   Past a b         the mark b is later than a: greater at a node, with the same before it, or longer
 --   On a b           the walk b is further on than a: it has ended and a has not, or its mark is later
+--   on-trans, on-never   further on is transitive, and nothing is further on than itself
 --   step-on          every step leads on
 --   walk-count-unique   no two counts of steps join the same two states
 use Prim.Native.Nat.{ℕ, suc, _+_}

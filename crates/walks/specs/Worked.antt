@@ -1,10 +1,11 @@
 -- One walk worked out: the loose answers of the twig 1(1) on Five, as document 01's listing prints them. No premise of this crate is empty.
 --   five             the choices: an entry for the first node has some entry below it, the second lies below the first
+--   five-plain       next adds one
 --   five-listed      the answers, computed
---   five-chain       seven turns from the fresh state tell them, and take 14 steps to the end
+--   five-chain, five-told   seven turns from the fresh state tell them, and take 14 steps to the end
 --   five-bounded     the ranges are bounded, and no range of the second node fails
 --   five-within      so 21 steps lead from the fresh state to an answer or to the end
---   five-above       the least answer greater than 1 5 is 3 4, and there is none greater than 3 5
+--   five-above, five-none   the least answer greater than 1 5 is 3 4, and there is none greater than 3 5
 use Prim.Native.Nat.{ℕ, zero, suc, _≤_, _<_}
 use mathlib.Core.Path.{_≡_, refl}
 use mathlib.Core.Logic.{_⊎_}
