@@ -22,7 +22,7 @@ use Rattle.walks.specs.Answers.{here, Fits, Good}
 use Rattle.walks.specs.Plain.{Plain, plain-rising}
 use Rattle.walks.specs.Potential.{Bounded}
 use Rattle.walks.specs.Falling.{fresh-way}
-use Rattle.walks.specs.Within.{way-within, turn-arrives}
+use Rattle.walks.specs.Within.{turn-limit}
 use Rattle.walks.specs.Chained.{told}
 use Rattle.walks.specs.Telling.{tell, WalkTurns}
 use Rattle.walks.specs.Seeking.{Least, None}
@@ -91,7 +91,7 @@ pub five-within : (walkTurn five 21 (fresh five 1) .halt ≡ answer) ⊎ (walkTu
 five-within =
     let w = fresh-way five 2 1 refl in
     let r = plain-rising five five-plain in
-    turn-arrives five r 2 5 five-bounded 21 (fresh five 1) w (way-within five r 2 5 five-bounded (fresh five 1) w)
+    turn-limit five r 2 5 five-bounded 21 (fresh five 1) w (omega arith)
 
 -- ---- the least answer greater than a tuple
 
