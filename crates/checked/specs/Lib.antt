@@ -1,3 +1,4 @@
 -- Checked: a signature is accepted exactly if a tree yields it, in exactly 2×n steps, however the turns are cut.
 pub mod Walked
 pub mod Parsed
+pub mod Apart

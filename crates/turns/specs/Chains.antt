@@ -10,7 +10,7 @@ use native.Mathlib.Omega.{arith}
 use native.Mathlib.Decide.{decLe}
 use native.Mathlib.Nat.{add-zero, zero-add}
 use Rattle.turns.specs.Turn.{Next, moved, answered, refused, Halt, answer, end, budget, refusal, Turned, run, turn, Moves, stay, move, Step, on, found, Steps, none, then, Outcome, ended, spent, told, faulty}
-use Rattle.turns.specs.Laws.{turn-outcome, outcome-turn, after}
+use Rattle.turns.specs.Laws.{turn-outcome, outcome-turn, after, ended-finished, AtFault, stops-before-the-fault}
 use Rattle.turns.specs.Counts.{moves-append, steps-append, moves-split, Split, moves-on, counted}
 
 -- ---- chains, over whatever a public turn promises
@@ -129,3 +129,17 @@ module _ (S : Type 0) (finished : S → Bool) (step : S → Next S) where
           let q = e ∙ turn-underway (omega arith) s in
           onward (omega arith) (ap (λ (t : Turned S). t .steps) q)
           (ih (N - b) (subst (λ (x : S). Move (N - b) x fin) (sym (ap (λ (t : Turned S). t .state) q)) (s .rest)))
+
+  -- the last turn of a chain came to the end where its state is finished
+  pub chain-finished : {st : S} {B K : ℕ} {r : Turned S} → Turns st B K r → r .halt ≡ end → finished (r .state) ≡ true
+  chain-finished {st = st} (Chain.one {b = b} {r = r} e) h =
+      ap (λ (t : Turned S). finished (t .state)) e ∙ ended-finished S finished step b st (ap (λ (t : Turned S). t .halt) (sym e) ∙ h)
+  chain-finished (Chain.more e c) h = chain-finished c h
+
+  -- the last turn of a chain was refused where the next step is
+  pub chain-fault : {st : S} {B K : ℕ} {r : Turned S} (number entry : ℕ) → Turns st B K r → r .halt ≡ refusal number entry
+      → (finished (r .state) ≡ false) × (step (r .state) ≡ refused number entry)
+  chain-fault {st = st} number entry (Chain.one {b = b} {r = r} e) h =
+      let f = stops-before-the-fault S finished step b st number entry (ap (λ (t : Turned S). t .halt) (sym e) ∙ h) in
+      (ap (λ (t : Turned S). finished (t .state)) e ∙ f .going, ap (λ (t : Turned S). step (t .state)) e ∙ f .fault)
+  chain-fault number entry (Chain.more e c) h = chain-fault number entry c h

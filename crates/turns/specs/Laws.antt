@@ -136,3 +136,44 @@ module _ (S : Type 0) (finished : S → Bool) (step : S → Next S) where
   outcome-turn {b} (faulty {k = k} {number = u} {entry = v} {to = to} m l f a) =
       moves-turn b m (omega arith) ∙ ap (after k) (run-refused 0 to f (b - k) u v (omega arith) a)
       ∙ ap (λ (x : ℕ). record { state = to; steps = x; halt = refusal u v }) (add-zero k)
+
+  -- ---- what stopped it says where it stands
+
+  module _ (b : ℕ) (st : S) where
+    outcome-end : (t : Turned S) → Outcome S finished step b st t → t .halt ≡ end → finished (t .state) ≡ true
+    outcome-end t (ended m l f) e = f
+    outcome-end t (spent m f) e = let z : _≡_ {A = ℕ} 0 1 = cc in absurd (omega arith)
+    outcome-end t (told m l f a) e = let z : _≡_ {A = ℕ} 0 1 = cc in absurd (omega arith)
+    outcome-end t (faulty m l f a) e = let z : _≡_ {A = ℕ} 0 1 = cc in absurd (omega arith)
+
+    -- the end is reported where the state is finished
+    pub ended-finished : turn S finished step b st .halt ≡ end → finished (turn S finished step b st .state) ≡ true
+    ended-finished e = outcome-end (turn S finished step b st) (turn-outcome b st) e
+
+    -- the budget stops it where the budget is spent and something is left to do
+    outcome-spent : (t : Turned S) → Outcome S finished step b st t → t .halt ≡ budget → (t .steps ≡ b) × (finished (t .state) ≡ false)
+    outcome-spent t (ended m l f) e = let z : _≡_ {A = ℕ} 0 1 = cc in absurd (omega arith)
+    outcome-spent t (spent m f) e = (refl, f)
+    outcome-spent t (told m l f a) e = let z : _≡_ {A = ℕ} 0 1 = cc in absurd (omega arith)
+    outcome-spent t (faulty m l f a) e = let z : _≡_ {A = ℕ} 0 1 = cc in absurd (omega arith)
+
+    pub budget-spent : turn S finished step b st .halt ≡ budget
+        → (turn S finished step b st .steps ≡ b) × (finished (turn S finished step b st .state) ≡ false)
+    budget-spent e = outcome-spent (turn S finished step b st) (turn-outcome b st) e
+
+    -- "A turn that meets a fault stops before the faulty step": the next step is the one refused, and the budget would have paid for it
+    pub record AtFault (t : Turned S) (number entry : ℕ) : Type 0 where
+      pub going : finished (t .state) ≡ false
+      pub fault : step (t .state) ≡ refused number entry
+      pub paid : t .steps < b
+
+    outcome-fault : (t : Turned S) (number entry : ℕ) → Outcome S finished step b st t → t .halt ≡ refusal number entry → AtFault t number entry
+    outcome-fault t number entry (ended m l f) e = let z : _≡_ {A = ℕ} 0 1 = cc in absurd (omega arith)
+    outcome-fault t number entry (spent m f) e = let z : _≡_ {A = ℕ} 0 1 = cc in absurd (omega arith)
+    outcome-fault t number entry (told m l f a) e = let z : _≡_ {A = ℕ} 0 1 = cc in absurd (omega arith)
+    outcome-fault t number entry (faulty {number = u} {entry = v} m l f a) e =
+        let p : u ≡ number = cc in let q : v ≡ entry = cc in record { going = f; fault = rw (← p, ← q) a; paid = l }
+
+    pub stops-before-the-fault : (number entry : ℕ) → turn S finished step b st .halt ≡ refusal number entry
+        → AtFault (turn S finished step b st) number entry
+    stops-before-the-fault number entry e = outcome-fault (turn S finished step b st) number entry (turn-outcome b st) e
