@@ -2,3 +2,6 @@
 pub mod Walked
 pub mod Parsed
 pub mod Apart
+pub mod Yields
+pub mod Named
+pub mod Chained
