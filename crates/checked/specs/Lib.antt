@@ -5,3 +5,4 @@ pub mod Apart
 pub mod Yields
 pub mod Named
 pub mod Chained
+pub mod Accepted
