@@ -31,7 +31,7 @@ stopOf Halt.end = Stop.End
 stopOf Halt.budget = Stop.Budget
 stopOf (Halt.refusal number entry) = Stop.Refused (record { number = number; entry = record { 0 = entry } })
 
-told-stop : (h : Halt) → told (stopOf h) ≡ haltTold h
+pub told-stop : (h : Halt) → told (stopOf h) ≡ haltTold h
 told-stop Halt.answer = refl
 told-stop Halt.end = refl
 told-stop Halt.budget = refl

@@ -6,3 +6,4 @@ pub mod Yields
 pub mod Named
 pub mod Chained
 pub mod Accepted
+pub mod Wholly

@@ -1,0 +1,105 @@
+-- The whole check, over its promise: accepted exactly if a tree yields the list; and what an accepted signature gives the layers above.
+--   accepted-exactly    chains of public turns: the end is reported exactly if a tree yields the list
+--   check-two-n         and by then the returned steps add up to 2×n
+--   whole-exactly       the whole check accepts exactly if a tree yields the list
+--   accepted-tree       an accepted signature has a tree, with its facts: the one interface for later layers
+--   tree-unique         the tree is unique
+use Prim.Native.Nat.{ℕ, zero, suc, _+_, _*_, _≤_, _<_}
+use mathlib.Core.Path.{_≡_, refl, ap, _∙_, sym, subst}
+use mathlib.Core.Logic.{_⊎_, inl, inr}
+use mathlib.Core.List.{List}
+use native.Mathlib.Omega.{arith}
+use Rattle.turns.specs.Turn.{Halt, Turned}
+use Rattle.turns.specs.Chains.{one}
+use Rattle.trees.specs.Tree.{Tree, size, whole}
+use Rattle.trees.specs.Signature.{signature}
+use Rattle.trees.specs.Unique.{signature-unique}
+use Rattle.checking.specs.declared.Kind.{Kind}
+use Rattle.checking.specs.declared.CheckState.{CheckState}
+use Rattle.checking.specs.declared.CheckTurn.{CheckTurn}
+use Rattle.checking.specs.declared.Stop.{Stop}
+use Rattle.checking.specs.declared.Verdict.{Verdict}
+use Rattle.checking.specs.Kinds.{anyName, most}
+use Rattle.checking.specs.Rule.{fresh}
+use Rattle.checking.specs.Stops.{Told, told, haltTold, verdictTold}
+use Rattle.checking.specs.Turn.{Handed, TurnPromise, turnOf}
+use Rattle.checking.specs.Whole.{wholeOf, WholePromise}
+use Rattle.checked.specs.Yields.{Words, Yields, Turns, entries}
+use Rattle.checked.specs.Apart.{stopOf, halt-told, verdict-apart, told-stop}
+use Rattle.checked.specs.Accepted.{Tree-of, tree-of, Sound, chain-sound, accepted-sound, Complete, chain-complete}
+
+-- what the code hands back for a turn of the rule
+abbrev pub handed : Turned CheckState → CheckTurn
+handed t = record { state = t .state; steps = t .steps; stop = stopOf (t .halt) }
+
+pub handed-is : (t : Turned CheckState) → Handed (handed t) t
+handed-is t = record { state = refl; steps = refl; stop = told-stop (t .halt) }
+
+module _ (k : Kind) (s : List ℕ) where
+  -- ---- chains of public turns
+
+  -- demand 2: turns that together may spend the steps of the largest tree report the end exactly if a tree yields the list
+  pub record Exactly (B K : ℕ) (r : CheckTurn) : Type 0 where
+    pub sound : r .stop ≡ Stop.End → Yields k s
+    pub complete : Yields k s → r .stop ≡ Stop.End
+
+  pub accepted-exactly : {B K : ℕ} {r : CheckTurn} → Words s → 2 * most k ≤ B → Turns k s fresh B K r → Exactly B K r
+  accepted-exactly {B} {K} {r} w b c = record { sound = λ h. accepted-sound k s w c h .0; complete = λ y. go y (chain-complete k s y c) }
+    where
+      go : (y : Yields k s) → ((2 * entries s ≤ B) × Complete k s y B K r) ⊎ ((B < 2 * entries s) × (K ≡ B) × (r .stop ≡ Stop.Budget)) → r .stop ≡ Stop.End
+      go y (inl q) = q .1 .stop
+      go y (inr q) = absurd (omega (arith, q .0, tree-of s (y .tree) (y .is) .count, y .grown .small))
+
+  -- demand 3: where the end is reported, the steps add up to 2×n
+  pub check-two-n : {B K : ℕ} {r : CheckTurn} → Turns k s fresh B K r → r .stop ≡ Stop.End → K ≡ 2 * entries s
+  check-two-n c h = chain-sound k s c h .steps
+
+  -- a tree's signature is never refused, whatever the budgets
+  pub never-refused : {B K : ℕ} {r : CheckTurn} → Yields k s → Turns k s fresh B K r → (r .stop ≡ Stop.End) ⊎ (r .stop ≡ Stop.Budget)
+  never-refused {B} {K} {r} y c = go (chain-complete k s y c)
+    where
+      go : ((2 * entries s ≤ B) × Complete k s y B K r) ⊎ ((B < 2 * entries s) × (K ≡ B) × (r .stop ≡ Stop.Budget)) → (r .stop ≡ Stop.End) ⊎ (r .stop ≡ Stop.Budget)
+      go (inl q) = inl (q .1 .stop)
+      go (inr q) = inr (q .2)
+
+  -- ---- the whole check
+
+  -- the whole check is a chain of one turn
+  whole-turn : Turns k s fresh (2 * most k + 1) (turnOf k s (2 * most k + 1) fresh .steps) (handed (turnOf k s (2 * most k + 1) fresh))
+  whole-turn = one (handed-is (turnOf k s (2 * most k + 1) fresh))
+
+  whole-end : WholePromise k s Verdict.Accepted → handed (turnOf k s (2 * most k + 1) fresh) .stop ≡ Stop.End
+  whole-end p = ap stopOf (sym (halt-told Halt.end (turnOf k s (2 * most k + 1) fresh .halt) p))
+
+  pub whole-sound : WholePromise k s Verdict.Accepted → Sound k s (turnOf k s (2 * most k + 1) fresh .steps)
+  whole-sound p = chain-sound k s whole-turn (whole-end p)
+
+  -- an accepted signature: the tree, and its facts for every call above
+  pub record AcceptedTree : Type 0 where
+    pub tree : Tree
+    pub of : Tree-of s tree
+    pub small : entries s ≤ most k
+
+  pub accepted-tree : WholePromise k s Verdict.Accepted → AcceptedTree
+  accepted-tree p = let x = whole-sound p in record { tree = x .tree; of = x .read; small = x .small }
+
+  -- demand 2 of the whole check
+  pub record WhollyExactly (v : Verdict) : Type 0 where
+    pub sound : v ≡ Verdict.Accepted → Yields k s
+    pub complete : Yields k s → v ≡ Verdict.Accepted
+
+  pub whole-exactly : Words s → (v : Verdict) → WholePromise k s v → WhollyExactly v
+  whole-exactly w v p = record {
+    sound = λ h. accepted-sound k s w whole-turn (whole-end (subst (WholePromise k s) h p)) .0;
+    complete = λ y. verdict-apart v Verdict.Accepted (p ∙ ap haltTold (ended y));
+  }
+    where
+      ended : Yields k s → turnOf k s (2 * most k + 1) fresh .halt ≡ Halt.end
+      ended y =
+          halt-told (turnOf k s (2 * most k + 1) fresh .halt) Halt.end
+          (sym (told-stop (turnOf k s (2 * most k + 1) fresh .halt))
+          ∙ ap told (accepted-exactly w (omega arith) whole-turn .complete y))
+
+-- the tree is unique
+pub tree-unique : (k : Kind) (s : List ℕ) (a b : Yields k s) → a .tree ≡ b .tree
+tree-unique k s a b = signature-unique (a .tree) (b .tree) (sym (a .is) ∙ b .is)
