@@ -7,3 +7,4 @@ pub mod Named
 pub mod Chained
 pub mod Accepted
 pub mod Wholly
+pub mod Public

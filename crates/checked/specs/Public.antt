@@ -1,0 +1,175 @@
+-- Demand 3 of the check at the public call, over its promise.
+--   one-result             two results that the promise allows are equal
+--   step-as-written        the state handed back is the one after exactly the steps returned, by the written rule
+--   handed-back-in-range   from a state in range the state handed back is in range, after a refusal too
+--   stops-before-the-fault     a refused turn stands before the step that the rule refuses, and its budget would have paid for it
+--   cut-anywhere, cut-kept a turn of a + b steps is one of a and then one of b, unless it stopped
+--   count-unique           no two counts join the same two states
+--   refused-early          a refused check has taken fewer than 2×n steps
+use Prim.Native.Nat.{ℕ, zero, suc, _+_, _-_, _*_, _≤_, _<_}
+use mathlib.Core.Path.{_≡_, refl, ap, _∙_, sym, subst}
+use mathlib.Core.Logic.{_⊎_, inl, inr}
+use mathlib.Core.List.{List}
+use mathlib.Core.Bool.{Bool, true, false}
+use native.Mathlib.Omega.{arith}
+use Rattle.turns.specs.Turn.{Halt, Turned, turn, Next, moved, refused, Moves, stay, move, Step, on, found, Steps}
+use Rattle.turns.specs.Counts as Counts
+use Rattle.turns.specs.Laws as Laws
+use Rattle.turns.specs.Chains as Chains
+use Rattle.trees.specs.Signature.{Entries, entriesOf, width}
+use Rattle.checking.specs.declared.Kind.{Kind}
+use Rattle.checking.specs.declared.CheckState.{CheckState}
+use Rattle.checking.specs.declared.CheckTurn.{CheckTurn}
+use Rattle.checking.specs.declared.Stop.{Stop}
+use Rattle.checking.specs.declared.Refusal.{Refusal}
+use Rattle.checking.specs.declared.Verdict.{Verdict}
+use Rattle.checking.specs.Kinds.{anyName, most}
+use Rattle.checking.specs.Rule.{fresh, stepOf, accepted, Ranges}
+use Rattle.checking.specs.Stops.{Told, told, haltTold}
+use Rattle.checking.specs.Turn.{Handed, TurnPromise, turnOf}
+use Rattle.checking.specs.Whole.{WholePromise}
+use Rattle.checking.proofs.Inverse.{Opens, Closes, step-inverse, step-grows, step-silent}
+use Rattle.checking.proofs.Runs.{moves-grow, moves-ranges}
+use Rattle.checking.proofs.Cases.{accepted-yes}
+use Rattle.checked.specs.Yields.{Turns, entries}
+use Rattle.checked.specs.Apart.{handed-unique, verdict-apart, halt-told}
+use Rattle.checked.specs.Chained.{Fits, promise-is, turn-kept, Ran, chain-ran, run-moves}
+
+-- ---- one result
+
+pub one-result : (k : Kind) (s : List ℕ) (b : ℕ) (st : CheckState) (r q : CheckTurn) → TurnPromise k s b st r → TurnPromise k s b st q → r ≡ q
+one-result k s b st r q p o = handed-unique r q (turnOf k s b st) p o
+
+pub one-verdict : (k : Kind) (s : List ℕ) (v w : Verdict) → WholePromise k s v → WholePromise k s w → v ≡ w
+one-verdict k s v w p q = verdict-apart v w (p ∙ sym q)
+
+module _ (k : Kind) (s : List ℕ) (f : Fits k s) where
+  abbrev step : CheckState → Next CheckState
+  step st = stepOf (anyName k) (entries s) (entriesOf width s) st
+
+  abbrev done : CheckState → Bool
+  done st = accepted (entries s) st
+
+  -- ---- one turn
+
+  module _ (b : ℕ) (st : CheckState) (r : CheckTurn) (g : Ranges (entries s) st) (p : TurnPromise k s b st r) where
+    abbrev h : Handed r (turn CheckState done step b st)
+    h = promise-is k s f b st r g p
+
+    pub step-as-written : Steps CheckState done step (r .steps) st (r .state)
+    step-as-written = rw (h .state, h .steps) (Counts.counted CheckState done step b st)
+
+    pub handed-back-in-range : Ranges (entries s) (r .state)
+    handed-back-in-range = rw (h .state) (turn-kept k s b st g)
+
+    pub record BeforeFault (x : Refusal) : Type 0 where
+      pub going : done (r .state) ≡ false
+      pub fault : step (r .state) ≡ refused (x .number) (x .entry .0)
+      pub paid : r .steps < b
+
+    pub stops-before-the-fault : (x : Refusal) → r .stop ≡ Stop.Refused x → BeforeFault x
+    stops-before-the-fault x e =
+        let q = Laws.stops-before-the-fault CheckState done step b st (x .number) (x .entry .0)
+            (halt-told (turn CheckState done step b st .halt) (Halt.refusal (x .number) (x .entry .0)) (sym (h .stop) ∙ ap told e)) in
+        record { going = rw (h .state) (q .going); fault = rw (h .state) (q .fault); paid = rw (h .steps) (q .paid) }
+
+  -- ---- turns one after the other
+
+  -- stopped by its budget, a turn of a steps and then one of b are the turn of a + b
+  pub cut-anywhere : (a b : ℕ) (st : CheckState) (x y r : CheckTurn) → Ranges (entries s) st → TurnPromise k s a st x → x .stop ≡ Stop.Budget
+      → TurnPromise k s b (x .state) y → TurnPromise k s (a + b) st r → r ≡ record { state = y .state; steps = a + y .steps; stop = y .stop }
+  cut-anywhere a b st x y r g p e q o =
+      let hx = promise-is k s f a st x g p in
+      let gx = handed-back-in-range a st x g p in
+      let hy = promise-is k s f b (x .state) y gx q in
+      let ho = promise-is k s f (a + b) st r g o in
+      let c = Chains.turn-cut CheckState done step a b st (halt-told _ Halt.budget (sym (hx .stop) ∙ ap told e)) in
+      handed-unique r (record { state = y .state; steps = a + y .steps; stop = y .stop }) (turn CheckState done step (a + b) st) ho
+      (rw c (record {
+        state = hy .state ∙ ap (λ (z : CheckState). turn CheckState done step b z .state) (hx .state);
+        steps = ap (λ (i : ℕ). a + i) (hy .steps ∙ ap (λ (z : CheckState). turn CheckState done step b z .steps) (hx .state));
+        stop = hy .stop ∙ ap (λ (z : CheckState). haltTold (turn CheckState done step b z .halt)) (hx .state);
+      }))
+
+  -- stopped by anything else, a larger budget changes nothing
+  pub cut-kept : (a b : ℕ) (st : CheckState) (x r : CheckTurn) → Ranges (entries s) st → TurnPromise k s a st x → (x .stop ≡ Stop.Budget → ⊥)
+      → TurnPromise k s (a + b) st r → r ≡ x
+  cut-kept a b st x r g p n o =
+      let hx = promise-is k s f a st x g p in
+      let ho = promise-is k s f (a + b) st r g o in
+      handed-unique r x (turn CheckState done step (a + b) st) ho
+      (rw (Chains.turn-kept CheckState done step a b st (λ e. n (budget-told (hx .stop ∙ ap haltTold e)))) hx)
+    where
+      budget-told : told (x .stop) ≡ haltTold Halt.budget → x .stop ≡ Stop.Budget
+      budget-told q = Rattle.checked.specs.Apart.told-halt (x .stop) Halt.budget q
+
+  -- ---- counts
+
+  -- next + closed grows by one with each step
+  grows : (a b : CheckState) → Step CheckState done step a b → a .next .0 + a .closed .0 < b .next .0 + b .closed .0
+  grows a b (on h e) = omega (arith, step-grows (anyName k) (entries s) (entriesOf width s) a b e)
+  grows a b (found h e) = absurd (step-silent (anyName k) (entries s) (entriesOf width s) a b e)
+
+  pub count-unique : {i j : ℕ} {a b : CheckState} → Steps CheckState done step i a b → Steps CheckState done step j a b → i ≡ j
+  count-unique m w =
+      Counts.count-unique CheckState done step (λ a b. a .next .0 + a .closed .0 < b .next .0 + b .closed .0)
+      (λ a b c x y. omega arith) (λ a x. omega arith) grows m w
+
+  -- ---- a refused check has taken fewer than 2×n steps
+
+  -- d elements are open: top, its fa, and so on up to none
+  abbrev Open : ℕ → ℕ → Type 0
+  Open zero top = top ≡ 0
+  Open (suc d) top = (1 ≤ top) × Open d (entriesOf width s .fa top)
+
+  record Depth (st : CheckState) : Type 0 where
+    pub held : ℕ
+    pub chain : Open held (st .top .0)
+    pub count : st .closed .0 + held + 1 ≡ st .next .0
+
+  opened : {st to : CheckState} → Opens (anyName k) (entries s) (entriesOf width s) st to → Depth st → Depth to
+  opened o d = rw (o .is) (record { held = suc (d .held); chain = (omega (arith, o .low), rw (o .here) (d .chain)); count = omega (arith, d .count) })
+
+  closed : {st to : CheckState} → Closes (entriesOf width s) st to → (d : ℕ) → Open d (st .top .0) → st .closed .0 + d + 1 ≡ st .next .0 → Depth to
+  closed c zero q e = absurd (c .some-open q)
+  closed c (suc d) q e = rw (c .is) (record { held = d; chain = q .1; count = omega arith })
+
+  moves-depth : {j : ℕ} {st to : CheckState} → Depth st → Moves CheckState done step j st to → Depth to
+  moves-depth d stay = d
+  moves-depth d (move {st = st} {mid = mid} h e m) = moves-depth (next (step-inverse (anyName k) (entries s) (entriesOf width s) st mid e)) m
+    where
+      next : Opens (anyName k) (entries s) (entriesOf width s) st mid ⊎ Closes (entriesOf width s) st mid → Depth mid
+      next (inl o) = opened o d
+      next (inr c) = closed c (d .held) (d .chain) (d .count)
+
+  -- after 2×n steps everything is open and closed again: that is the end
+  all-closed : (st : CheckState) → Depth st → Ranges (entries s) st → 2 * entries s + 1 ≤ st .next .0 + st .closed .0 → done st ≡ true
+  all-closed st d g l = accepted-yes (entries s) st (omega (arith, g .last, g .closed)) (go (d .held) (d .chain) (omega (arith, d .count, g .last, g .closed)))
+    where
+      go : (i : ℕ) → Open i (st .top .0) → i ≡ 0 → st .top .0 ≡ 0
+      go zero q e = q
+      go (suc i) q e = absurd (omega arith)
+
+  pub refused-early : {B K : ℕ} {r : CheckTurn} → Turns k s fresh B K r → (x : Refusal) → r .stop ≡ Stop.Refused x → K < 2 * entries s
+  refused-early {B} {K} {r} c x e = go (Rattle.trees.specs.Order.lt-or-ge K (2 * entries s))
+    where
+      start : Ranges (entries s) fresh
+      start = record { some = omega arith; last = omega arith; top = omega arith; closed = omega arith }
+
+      ran : Ran k s fresh B K r
+      ran = chain-ran k s f start c
+
+      moves : Moves CheckState done step K fresh (ran .last .state)
+      moves = run-moves k s (Chains.chain-steps CheckState done step (ran .chain))
+
+      halted : ran .last .halt ≡ Halt.refusal (x .number) (x .entry .0)
+      halted = halt-told (ran .last .halt) (Halt.refusal (x .number) (x .entry .0)) (sym (ran .handed .stop) ∙ ap told e)
+
+      go : (K < 2 * entries s) ⊎ (2 * entries s ≤ K) → K < 2 * entries s
+      go (inl l) = l
+      go (inr l) =
+          let d = moves-depth (record { held = 0; chain = refl; count = refl }) moves in
+          let a = all-closed (ran .last .state) d (moves-ranges (anyName k) (entries s) (entriesOf width s) start moves)
+              (omega (arith, moves-grow (anyName k) (entries s) (entriesOf width s) moves)) in
+          let w = Chains.chain-fault CheckState done step (x .number) (x .entry .0) (ran .chain) halted .0 in
+          let z : true ≡ false = sym a ∙ w in absurd (mathlib.Core.Bool.false≢true (sym z))
