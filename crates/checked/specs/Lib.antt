@@ -8,3 +8,4 @@ pub mod Chained
 pub mod Accepted
 pub mod Wholly
 pub mod Public
+pub mod ShutOut

@@ -1,0 +1,1 @@
+// Document 01's starred cases: no code. One list and one computed statement stand in specs/.
