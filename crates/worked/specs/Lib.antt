@@ -3,3 +3,4 @@ pub mod Case
 pub mod Menus
 pub mod Check
 pub mod Starred
+pub mod Instances
