@@ -70,7 +70,7 @@ module _ (k : Kind) (s : List ℕ) (f : Fits k s) where
     pub stops-before-the-fault : (x : Refusal) → r .stop ≡ Stop.Refused x → BeforeFault x
     stops-before-the-fault x e =
         let q = Laws.stops-before-the-fault CheckState done step b st (x .number) (x .entry .0)
-            (halt-told (turn CheckState done step b st .halt) (Halt.refusal (x .number) (x .entry .0)) (sym (h .stop) ∙ ap told e)) in
+        (halt-told (turn CheckState done step b st .halt) (Halt.refusal (x .number) (x .entry .0)) (sym (h .stop) ∙ ap told e)) in
         record { going = rw (h .state) (q .going); fault = rw (h .state) (q .fault); paid = rw (h .steps) (q .paid) }
 
   -- ---- turns one after the other
@@ -170,6 +170,6 @@ module _ (k : Kind) (s : List ℕ) (f : Fits k s) where
       go (inr l) =
           let d = moves-depth (record { held = 0; chain = refl; count = refl }) moves in
           let a = all-closed (ran .last .state) d (moves-ranges (anyName k) (entries s) (entriesOf width s) start moves)
-              (omega (arith, moves-grow (anyName k) (entries s) (entriesOf width s) moves)) in
+          (omega (arith, moves-grow (anyName k) (entries s) (entriesOf width s) moves)) in
           let w = Chains.chain-fault CheckState done step (x .number) (x .entry .0) (ran .chain) halted .0 in
           let z : true ≡ false = sym a ∙ w in absurd (mathlib.Core.Bool.false≢true (sym z))

@@ -17,16 +17,27 @@ pub struct PostRank(pub u16);
 
 // Document 01's refusal numbers. They are constants and no enum, because later numbers must break no match.
 pub const CUT: u16 = 1;
+
 pub const UNKNOWN_MARK: u16 = 2;
+
 pub const NAMELESS: u16 = 3;
+
 pub const NOT_OPEN: u16 = 4;
+
 pub const WRONG_POST: u16 = 5;
+
 pub const WRONG_FF: u16 = 6;
+
 pub const TOO_MANY: u16 = 7;
+
 pub const BAD_ARGUMENT: u16 = 8;
+
 pub const BAD_STATE: u16 = 9;
+
 pub const NO_ROOM: u16 = 10;
+
 pub const BAD_POINTER: u16 = 11;
+
 pub const BAD_NESTING: u16 = 12;
 
 // A refusal: its number, and the entry that it names, or 0.

@@ -22,9 +22,9 @@ lies : (i k r j : ℕ) → i ≤ j → j < i + suc (k + r) → Lies i k r j
 lies i k r j l h =
     ⊎-elim (λ (e : i ≡ j). inl e)
     (λ (g : i < j). inr (⊎-elim
-      (λ (a : j < i + 1 + k). inl (omega arith, a))
-      (λ (b : i + 1 + k ≤ j). inr (b, omega arith))
-      (lt-or-ge j (i + 1 + k))))
+    (λ (a : j < i + 1 + k). inl (omega arith, a))
+    (λ (b : i + 1 + k ≤ j). inr (b, omega arith))
+    (lt-or-ge j (i + 1 + k))))
     (eq-or-lt-of-le l)
 
 module _ (e : Entries) where

@@ -138,8 +138,8 @@ ancestors-sound x here m = absurd (List·Memᴰ·not-nil m)
 ancestors-sound x (under {after = r} y) m =
     ⊎-elim (λ (e : x ≡ here). rw e tt)
     (λ (n : List·Memᴰ x (map under (ancestors y))).
-      let s = Memᴰ·of-map under (ancestors y) n in
-      rw (← s .2) (ancestors-sound (s .0) y (s .1)))
+    let s = Memᴰ·of-map under (ancestors y) n in
+    rw (← s .2) (ancestors-sound (s .0) y (s .1)))
     (List·Memᴰ·cases-cons m)
 ancestors-sound x (beside y) m = let s = Memᴰ·of-map beside (ancestors y) m in rw (← s .2) (ancestors-sound (s .0) y (s .1))
 
@@ -162,12 +162,12 @@ ancestors-nested x y here p q l = absurd (omega (arith, place-high p, place-low 
 ancestors-nested {i = i} {j = j} x y (under z) p q l =
     ⊎-elim (λ (c : (i ≡ 1) × (x ≡ here)). rw (c .1) (here-first (place-cons q) (omega arith)))
     (λ (c : (n : ℕ) × (i ≡ suc n) × Place (map under (ancestors z)) n x). ⊎-elim
-      (λ (d : (j ≡ 1) × (y ≡ here)). absurd (omega (arith, place-low p)))
-      (λ (d : (n : ℕ) × (j ≡ suc n) × Place (map under (ancestors z)) n y).
-        let s = place-of-map under (ancestors z) (c .2) in
-        let t = place-of-map under (ancestors z) (d .2) in
-        rw (← s .2, ← t .2) (ancestors-nested (s .0) (t .0) z (s .1) (t .1) (omega (arith, c .1, d .1))))
-      (place-cons q))
+    (λ (d : (j ≡ 1) × (y ≡ here)). absurd (omega (arith, place-low p)))
+    (λ (d : (n : ℕ) × (j ≡ suc n) × Place (map under (ancestors z)) n y).
+    let s = place-of-map under (ancestors z) (c .2) in
+    let t = place-of-map under (ancestors z) (d .2) in
+    rw (← s .2, ← t .2) (ancestors-nested (s .0) (t .0) z (s .1) (t .1) (omega (arith, c .1, d .1))))
+    (place-cons q))
     (place-cons p)
   where
     here-first : ((j ≡ 1) × (y ≡ here)) ⊎ ((n : ℕ) × (j ≡ suc n) × Place (map under (ancestors z)) n y) → 1 < j → Below here y
@@ -182,7 +182,7 @@ pub ancestors-once : {f : Forest} {i j : ℕ} (x y : Node f) → Place (ancestor
 ancestors-once {i = i} {j = j} x y p q =
     ⊎-elim (λ (l : i < j). absurd (below-irreflexive x (ancestors-nested x x y p q l)))
     (λ (g : j ≤ i). ⊎-elim
-      (λ (e : j ≡ i). sym e)
-      (λ (l : j < i). absurd (below-irreflexive x (ancestors-nested x x y q p l)))
-      (eq-or-lt-of-le g))
+    (λ (e : j ≡ i). sym e)
+    (λ (l : j < i). absurd (below-irreflexive x (ancestors-nested x x y q p l)))
+    (eq-or-lt-of-le g))
     (lt-or-ge i j)

@@ -140,9 +140,9 @@ pub follows-post : {f : Forest} (x y : Node f) → Before x y → (Below x y →
 follows-post x y b n =
     ⊎-elim (λ (h : post x < post y). h)
     (λ (h : post y ≤ post x). ⊎-elim
-      (λ (e : post y ≡ post x). absurd (same e))
-      (λ (l : post y < post x). absurd (n (post-below x y b l)))
-      (eq-or-lt-of-le h))
+    (λ (e : post y ≡ post x). absurd (same e))
+    (λ (l : post y < post x). absurd (n (post-below x y b l)))
+    (eq-or-lt-of-le h))
     (lt-or-ge (post x) (post y))
   where
     same : post y ≡ post x → ⊥

@@ -80,11 +80,11 @@ node-at {f = none} i l h = absurd (omega arith)
 node-at {f = elem a k r} i l h =
     ⊎-elim (λ (q : i < 2). (here, omega arith))
     (λ (q : 2 ≤ i). ⊎-elim
-      (λ (p : i < size k + 2). let s = node-at {f = k} (i - 1) (omega arith) (omega arith) in (under (s .0), omega (arith, s .1)))
-      (λ (p : size k + 2 ≤ i).
-        let s = node-at {f = r} (i - (1 + size k)) (omega arith) (omega arith) in
-        (beside (s .0), omega (arith, s .1)))
-      (lt-or-ge i (size k + 2)))
+    (λ (p : i < size k + 2). let s = node-at {f = k} (i - 1) (omega arith) (omega arith) in (under (s .0), omega (arith, s .1)))
+    (λ (p : size k + 2 ≤ i).
+    let s = node-at {f = r} (i - (1 + size k)) (omega arith) (omega arith) in
+    (beside (s .0), omega (arith, s .1)))
+    (lt-or-ge i (size k + 2)))
     (lt-or-ge i 2)
 
 pub closed-at : {f : Forest} (i : ℕ) → 1 ≤ i → i ≤ size f → (x : Node f) × (post x ≡ i)
@@ -93,11 +93,11 @@ closed-at {f = none} i l h = absurd (omega arith)
 closed-at {f = elem a k r} i l h =
     ⊎-elim (λ (q : i < size k + 1). let s = closed-at {f = k} i l (omega arith) in (under (s .0), s .1))
     (λ (q : size k + 1 ≤ i). ⊎-elim
-      (λ (p : i < size k + 2). (here, omega arith))
-      (λ (p : size k + 2 ≤ i).
-        let s = closed-at {f = r} (i - (1 + size k)) (omega arith) (omega arith) in
-        (beside (s .0), omega (arith, s .1)))
-      (lt-or-ge i (size k + 2)))
+    (λ (p : i < size k + 2). (here, omega arith))
+    (λ (p : size k + 2 ≤ i).
+    let s = closed-at {f = r} (i - (1 + size k)) (omega arith) (omega arith) in
+    (beside (s .0), omega (arith, s .1)))
+    (lt-or-ge i (size k + 2)))
     (lt-or-ge i (size k + 1))
 
 -- ---- each element stands in each order once

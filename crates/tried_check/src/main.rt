@@ -142,11 +142,26 @@ fn cuts(sig: &[u16]) {
 }
 
 fn lengths() {
-    shown(b"empty", CheckState::fresh().turn(Kind::Data, &[0u16; 0], 9));
-    shown(b"five", CheckState::fresh().turn(Kind::Data, &[1u16, 1, 2, 0, 1], 9));
-    shown(b"most", CheckState::fresh().turn(Kind::Data, &[1u16; 16385], 9));
-    shown(b"over", CheckState::fresh().turn(Kind::Data, &[1u16; 16388], 9));
-    shown(b"twig", CheckState::fresh().turn(Kind::Twig, &[1u16; 68], 9));
+    shown(
+        b"empty",
+        CheckState::fresh().turn(Kind::Data, &[0u16; 0], 9),
+    );
+    shown(
+        b"five",
+        CheckState::fresh().turn(Kind::Data, &[1u16, 1, 2, 0, 1], 9),
+    );
+    shown(
+        b"most",
+        CheckState::fresh().turn(Kind::Data, &[1u16; 16385], 9),
+    );
+    shown(
+        b"over",
+        CheckState::fresh().turn(Kind::Data, &[1u16; 16388], 9),
+    );
+    shown(
+        b"twig",
+        CheckState::fresh().turn(Kind::Twig, &[1u16; 68], 9),
+    );
 }
 
 // The three shapes at the greatest size, and one more; the shapes as twigs of 16 and 17.
@@ -169,16 +184,41 @@ fn sizes(shape: u16) {
 
 // Each refusal by an input made for it.
 fn refusals() {
-    shown(b"name", CheckState::fresh().turn(Kind::Data, &[0u16, 1, 2, 0], 9));
-    shown(b"any", CheckState::fresh().turn(Kind::Twig, &[0u16, 1, 2, 0], 9));
-    shown(b"fa", CheckState::fresh().turn(Kind::Data, &[1u16, 1, 2, 1], 9));
-    shown(b"roots", CheckState::fresh().turn(Kind::Data, &[5u16, 2, 3, 0, 5, 1, 3, 0], 1));
-    shown(b"roots", CheckState::fresh().turn(Kind::Data, &[5u16, 2, 3, 0, 5, 1, 3, 0], 2));
-    shown(b"post", CheckState::fresh().turn(Kind::Data, &[5u16, 1, 3, 0, 5, 2, 3, 1], 9));
-    shown(b"ff", CheckState::fresh().turn(Kind::Data, &[5u16, 2, 3, 0, 5, 1, 2, 1], 9));
+    shown(
+        b"name",
+        CheckState::fresh().turn(Kind::Data, &[0u16, 1, 2, 0], 9),
+    );
+    shown(
+        b"any",
+        CheckState::fresh().turn(Kind::Twig, &[0u16, 1, 2, 0], 9),
+    );
+    shown(
+        b"fa",
+        CheckState::fresh().turn(Kind::Data, &[1u16, 1, 2, 1], 9),
+    );
+    shown(
+        b"roots",
+        CheckState::fresh().turn(Kind::Data, &[5u16, 2, 3, 0, 5, 1, 3, 0], 1),
+    );
+    shown(
+        b"roots",
+        CheckState::fresh().turn(Kind::Data, &[5u16, 2, 3, 0, 5, 1, 3, 0], 2),
+    );
+    shown(
+        b"post",
+        CheckState::fresh().turn(Kind::Data, &[5u16, 1, 3, 0, 5, 2, 3, 1], 9),
+    );
+    shown(
+        b"ff",
+        CheckState::fresh().turn(Kind::Data, &[5u16, 2, 3, 0, 5, 1, 2, 1], 9),
+    );
     shown(
         b"shut",
-        CheckState::fresh().turn(Kind::Data, &[1u16, 3, 4, 0, 1, 1, 3, 1, 1, 2, 4, 1, 1, 4, 5, 2], 9),
+        CheckState::fresh().turn(
+            Kind::Data,
+            &[1u16, 3, 4, 0, 1, 1, 3, 1, 1, 2, 4, 1, 1, 4, 5, 2],
+            9,
+        ),
     );
 }
 
@@ -191,16 +231,60 @@ fn states() {
     shown(b"closed", at(2, 1, 2).turn(Kind::Data, &two, 9));
     shown(b"out", at(65535, 65535, 65535).turn(Kind::Data, &two, 0));
     shown(b"full", at(3, 2, 2).turn(Kind::Data, &two, 9));
-    shown(b"first", at(2, 1, 1).turn(Kind::Data, &[5u16, 2, 3, 0, 5, 1, 3, 0], 9));
+    shown(
+        b"first",
+        at(2, 1, 1).turn(Kind::Data, &[5u16, 2, 3, 0, 5, 1, 3, 0], 9),
+    );
     shown(b"done", at(3, 0, 1).turn(Kind::Data, &two, 0));
-    shown(b"up", at(3, 2, 0).turn(Kind::Data, &[5u16, 2, 3, 0, 5, 1, 3, 2], 9));
+    shown(
+        b"up",
+        at(3, 2, 0).turn(Kind::Data, &[5u16, 2, 3, 0, 5, 1, 3, 2], 9),
+    );
     shown(b"none", at(2, 0, 0).turn(Kind::Data, &two, 9));
 }
 
 fn main() {
     let ten: [u16; 40] = [
-        1, 10, 11, 0, 2, 5, 7, 1, 3, 3, 6, 2, 4, 1, 5, 3, 5, 2, 6, 3, 7, 4, 7, 2, 6, 9, 11, 1, 8,
-        8, 11, 7, 9, 6, 10, 8, 10, 7, 11, 8,
+        1,
+        10,
+        11,
+        0,
+        2,
+        5,
+        7,
+        1,
+        3,
+        3,
+        6,
+        2,
+        4,
+        1,
+        5,
+        3,
+        5,
+        2,
+        6,
+        3,
+        7,
+        4,
+        7,
+        2,
+        6,
+        9,
+        11,
+        1,
+        8,
+        8,
+        11,
+        7,
+        9,
+        6,
+        10,
+        8,
+        10,
+        7,
+        11,
+        8,
     ];
     cuts(&ten);
     lengths();

@@ -1,3 +1,4 @@
+-- The turn is the one that the whole check speaks of. What stops it is never its budget and never an answer, so what is no refusal is the end.
 use mathlib.Core.Path.{_≡_, sym, ap, _∙_}
 use mathlib.Core.Logic.{_⊎_, inl, inr}
 use Rattle.checking.specs.declared.Refusal.{Refusal}
@@ -10,41 +11,28 @@ use native.Mathlib.Omega.{arith}
 use borrow.Author.Needs.{needs}
 use Rattle.checking.proofs.check_whole.Statement.{statement}
 use Rattle.checking.proofs.check_whole.Tie as tie
-use Rattle.checking.proofs.check_whole.Reads as reads
-use Rattle.checking.proofs.check_whole.Lts as lts
-use Rattle.checking.proofs.CheckState.fresh.Reads as fresh-reads
-use Rattle.checking.proofs.CheckState.turn.Reads as turn-reads
-use Rattle.checking.proofs.Kind.most.Reads as most-reads
 
--- src/lib.rt:349:16
 most-requires : tie.Need-most-requires
 most-requires c κs = search needs
 
--- src/lib.rt:349:16
 cast-most : tie.Need-cast-most
 cast-most c = search needs
 
--- src/lib.rt:350:16
 fresh-requires : tie.Need-fresh-requires
 fresh-requires c κs = search needs
 
--- src/lib.rt:350:52
 mul-turn : tie.Need-mul-turn
 mul-turn c = search needs
 
--- src/lib.rt:350:52
 add-turn : tie.Need-add-turn
 add-turn c = search needs
 
--- src/lib.rt:350:9
 turn-requires : tie.Need-turn-requires
 turn-requires c κs = search needs
 
--- src/lib.rt:352:23
 enum-known-stop : tie.Need-enum-known-stop
 enum-known-stop c = search needs
 
--- src/lib.rt:353:9
 tag : Stop → ℕ
 tag = denote.Enum.Declared.tagOf (denote.Enum.Declared.declared Rattle.checking.proofs.Stop.enum)
 
@@ -69,7 +57,6 @@ returns c =
     stop-accepted (t .result .stop) _ (whole-is (a .kind) (a .sig .now) _ _ _ (t .ensures) (c .before .before .fresh .ensures) (budget (c .before .before .before .most .ensures))) (whole-stops (anyName (a .kind)) (most (a .kind)) (a .sig .now))
     (not-refused (t .result .stop) (c .match .keys2))
 
--- src/lib.rt:346:1
 returns-2 : tie.Need-returns-2
 returns-2 c =
     let a = c .before .before .before .before .before .before .before .args in

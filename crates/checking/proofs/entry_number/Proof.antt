@@ -1,3 +1,4 @@
+-- An entry's place is four numbers for each entry before it; rank 0 reads like rank 1.
 use mathlib.Core.Path.{_∙_}
 use Rattle.trees.specs.Signature.{cell}
 use Rattle.checking.proofs.Cases.{number-first}
@@ -5,39 +6,28 @@ use native.Mathlib.Omega.{arith}
 use borrow.Author.Needs.{needs}
 use Rattle.checking.proofs.entry_number.Statement.{statement}
 use Rattle.checking.proofs.entry_number.Tie as tie
-use Rattle.checking.proofs.entry_number.Reads as reads
-use Rattle.checking.proofs.entry_number.Lts as lts
-use Rattle.checking.proofs.number_or_zero.Reads as number-or-zero-reads
 
--- src/lib.rt:129:16
 cast-rank : tie.Need-cast-rank
 cast-rank c = search needs
 
--- src/lib.rt:131:9
 number-or-zero-requires : tie.Need-number-or-zero-requires
 number-or-zero-requires c κs = search needs
 
--- src/lib.rt:131:9
 returns : tie.Need-returns
 returns c = c .number-or-zero .ensures ∙ number-first _ _ _ (omega arith)
 
--- src/lib.rt:133:30
 sub-number-or-zero : tie.Need-sub-number-or-zero
 sub-number-or-zero c = search needs
 
--- src/lib.rt:133:25
 mul-number-or-zero : tie.Need-mul-number-or-zero
 mul-number-or-zero c = search needs
 
--- src/lib.rt:133:25
 add-number-or-zero : tie.Need-add-number-or-zero
 add-number-or-zero c = search needs
 
--- src/lib.rt:133:5
 number-or-zero-requires-2 : tie.Need-number-or-zero-requires-2
 number-or-zero-requires-2 c κs = search needs
 
--- src/lib.rt:126:1
 returns-2 : tie.Need-returns-2
 unfolding cell
 returns-2 c = search needs

@@ -1,24 +1,19 @@
+-- Past the end of a list its default stands.
 use Rattle.checking.proofs.Cases.{number-past}
 use native.Mathlib.Omega.{arith}
 use borrow.Author.Needs.{needs}
 use Rattle.checking.proofs.number_or_zero.Statement.{statement}
 use Rattle.checking.proofs.number_or_zero.Tie as tie
-use Rattle.checking.proofs.number_or_zero.Reads as reads
-use Rattle.checking.proofs.number_or_zero.Lts as lts
 
--- src/lib.rt:120:16
 mul-result : tie.Need-mul-result
 mul-result c = search needs
 
--- src/lib.rt:120:16
 shared-slice-read-result : tie.Need-shared-slice-read-result
 shared-slice-read-result c = search needs
 
--- src/lib.rt:120:9
 returns : tie.Need-returns
 returns c = search needs
 
--- src/lib.rt:116:1
 returns-2 : tie.Need-returns-2
 returns-2 c = number-past (c .before .args .sig .now) (c .before .args .at) (omega arith)
 

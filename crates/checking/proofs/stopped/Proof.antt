@@ -1,22 +1,16 @@
+-- The last paid step came to the end, or the budget is what stopped the turn.
 use Rattle.checking.proofs.Runs.{handed-as, spent-end, spent-budget}
 use mathlib.Core.Path.{refl}
-use native.Mathlib.Omega.{arith}
 use borrow.Author.Needs.{needs}
 use Rattle.checking.proofs.stopped.Statement.{statement}
 use Rattle.checking.proofs.stopped.Tie as tie
-use Rattle.checking.proofs.stopped.Reads as reads
-use Rattle.checking.proofs.stopped.Lts as lts
-use Rattle.checking.proofs.is_accepted.Reads as is-accepted-reads
 
--- src/lib.rt:269:8
 is-accepted-requires : tie.Need-is-accepted-requires
 is-accepted-requires c κs = search needs
 
--- src/lib.rt:270:9
 returns : tie.Need-returns
 returns c = handed-as _ _ _ (spent-end _ _ _ (cc)) (record { state = refl; steps = refl; stop = refl })
 
--- src/lib.rt:265:1
 returns-2 : tie.Need-returns-2
 returns-2 c = handed-as _ _ _ (spent-budget _ _ _ (cc)) (record { state = refl; steps = refl; stop = refl })
 

@@ -1,3 +1,5 @@
+-- Each return is one case of the turn: refused by its length, by its state, or run. A length that is not refused has a whole number of entries, few
+-- enough for sixteen bits.
 use lib.ListN.{length}
 use Rattle.checking.specs.Turn.{refusedAt}
 use Rattle.checking.proofs.Runs.{handed-as, turn-length, turn-range, turn-run, fault-none, fault-sized, most-small, run-any}
@@ -7,60 +9,43 @@ use native.Mathlib.Omega.{arith}
 use borrow.Author.Needs.{needs}
 use Rattle.checking.proofs.CheckState.turn.Statement.{statement}
 use Rattle.checking.proofs.CheckState.turn.Tie as tie
-use Rattle.checking.proofs.CheckState.turn.Reads as reads
-use Rattle.checking.proofs.CheckState.turn.Lts as lts
-use Rattle.checking.proofs.Kind.any_name.Reads as any-name-reads
-use Rattle.checking.proofs.is_in_range.Reads as is-in-range-reads
-use Rattle.checking.proofs.length_fault.Reads as length-fault-reads
-use Rattle.checking.proofs.refused.Reads as refused-reads
-use Rattle.checking.proofs.run.Reads as run-reads
 
--- src/lib.rt:331:13
 length-fault-requires : tie.Need-length-fault-requires
 length-fault-requires c κs = search needs
 
--- src/lib.rt:333:13
 refused-requires : tie.Need-refused-requires
 refused-requires c κs = search needs
 
--- src/lib.rt:333:13
 returns : tie.Need-returns
 returns c =
     handed-as _ _ _ (turn-length _ _ _ _ _ (omega arith) ∙ ap (refusedAt _) (sym (c .before .before .length-fault .ensures))) (c .refused .ensures)
 
--- src/lib.rt:335:17
 cast-n : tie.Need-cast-n
 cast-n c =
     let z = fault-sized (c .before .before .before .args .kind) (length (c .before .before .before .args .sig .now)) (c .before .length-fault .result) (c .before .length-fault .ensures) (omega arith) in
     omega (arith, z .small, most-small (c .before .before .before .args .kind))
 
--- src/lib.rt:336:13
 any-name-requires : tie.Need-any-name-requires
 any-name-requires c κs = search needs
 
--- src/lib.rt:337:12
 is-in-range-requires : tie.Need-is-in-range-requires
 is-in-range-requires c κs =
     let z = fault-sized (c .before .before .before .before .args .kind) (length (c .before .before .before .before .args .sig .now)) (c .before .before .length-fault .result) (c .before .before .length-fault .ensures) (omega arith) in
     omega (arith, z .small, most-small (c .before .before .before .before .args .kind))
 
--- src/lib.rt:338:13
 run-requires : tie.Need-run-requires
 run-requires c κs =
     let z = fault-sized (c .before .before .before .before .before .before .args .kind) (length (c .before .before .before .before .before .before .args .sig .now)) (c .before .before .before .before .length-fault .result) (c .before .before .before .before .length-fault .ensures) (omega arith) in
     (omega (arith, z .even), omega (arith, z .small, most-small (c .before .before .before .before .before .before .args .kind)), range-inverse _ _ (cc))
 
--- src/lib.rt:340:13
 refused-requires-2 : tie.Need-refused-requires-2
 refused-requires-2 c κs = search needs
 
--- src/lib.rt:327:5
 returns-2 : tie.Need-returns-2
 returns-2 c =
     let z = fault-none (c .before .before .before .before .before .before .before .args .kind) (length (c .before .before .before .before .before .before .before .args .sig .now)) (c .before .before .before .before .before .length-fault .result) (c .before .before .before .before .before .length-fault .ensures) (omega arith) in
     handed-as _ _ _ (turn-run _ _ _ _ _ z (cc) ∙ run-any _ _ _ _ _ _ (c .before .before .before .any-name .ensures)) (c .run .ensures)
 
--- src/lib.rt:327:5
 returns-3 : tie.Need-returns-3
 returns-3 c =
     let z = fault-none (c .before .before .before .before .before .before .before .args .kind) (length (c .before .before .before .before .before .before .before .args .sig .now)) (c .before .before .before .before .before .length-fault .result) (c .before .before .before .before .before .length-fault .ensures) (omega arith) in
