@@ -1,10 +1,8 @@
 -- Demand 2 and demand 3 of the check, over any chain of public turns from the fresh state, with any budgets.
---   accepted-sound      where a chain reports the end, a tree yields the list, and the steps of the chain add up to 2×n
---   accepted-complete   where a tree yields the list, a chain with 2×n steps to spend reports the end, after 2×n steps
---   accepted-exactly    so the end is reported exactly if a tree yields the list
---   check-two-n         and by then the steps add up to 2×n
---   tree-unique         the tree is unique
---   Tree-of, accepted-tree   what the layers above use of an accepted signature
+--   Tree-of, tree-of    what the layers above use of a list that a tree yields
+--   Sound, chain-sound  where a chain reports the end, it has read a tree, in steps that add up to 2×n
+--   accepted-sound      so a tree yields the list
+--   Came, chain-complete  where a tree yields the list, turns with 2×n steps to spend in all report the end after 2×n; others spend all they have
 use Prim.Native.Nat.{ℕ, zero, suc, _+_, _-_, _*_, _/_, _%_, _≤_, _<_}
 use mathlib.Core.Path.{_≡_, refl, ap, _∙_, sym, subst}
 use mathlib.Core.Logic.{_⊎_, inl, inr}
@@ -31,7 +29,7 @@ use Rattle.checking.specs.Kinds.{anyName, most}
 use Rattle.checking.specs.Rule.{at, fresh, stepOf, accepted, Ranges}
 use Rattle.checking.specs.Stops.{told, haltTold}
 use Rattle.checking.specs.Turn.{Handed, lengthFault}
-use Rattle.checking.proofs.Cases.{accepted-yes}
+use Rattle.checking.proofs.Cases.{accepted-yes, fresh-ranges}
 use Rattle.checking.proofs.Runs.{Sized, length-sized, length-fine}
 use Rattle.checked.specs.Walked.{Run, Fine, walk-tree}
 use Rattle.checked.specs.Parsed.{Read, accepted-read}
@@ -46,9 +44,6 @@ pub record Tree-of (s : List ℕ) (tree : Tree) : Type 0 where
   pub count : size (whole tree) ≡ entries s
   pub holds : Holds (entriesOf width s) (whole tree) 1 0 0
   pub facts : Facts (entries s) (entriesOf width s)
-
-fresh-ranges : (n : ℕ) → Ranges n fresh
-fresh-ranges n = record { some = omega arith; last = omega arith; top = omega arith; closed = omega arith }
 
 -- a tree's list has 4×n numbers, and n is its number of entries
 pub tree-of : (s : List ℕ) (t : Tree) → s ≡ signature t → Tree-of s t
@@ -129,14 +124,24 @@ module _ (k : Kind) (s : List ℕ) where
         walk-tree (anyName k) (entries s) e (y .tree .name) (y .tree .below) (t .holds)
         (root-fine (anyName k) e (y .tree .name) (y .tree .below) (t .holds) (y .grown .named)) (t .count)
 
+    -- with 2×n steps to spend in all, the end
     pub record Complete (B K : ℕ) (r : CheckTurn) : Type 0 where
+      pub enough : 2 * entries s ≤ B
       pub steps : K ≡ 2 * entries s
       pub stop : r .stop ≡ Stop.End
       pub state : r .state ≡ at (entries s + 1) 0 (entries s)
 
-    -- with 2×n steps to spend in all, the end; with fewer, the budget, after all of them
+    -- with fewer, the budget, after all of them
+    pub record Short (B K : ℕ) (r : CheckTurn) : Type 0 where
+      pub short : B < 2 * entries s
+      pub steps : K ≡ B
+      pub stop : r .stop ≡ Stop.Budget
+
+    abbrev pub Came : ℕ → ℕ → CheckTurn → Type 0
+    Came B K r = Complete B K r ⊎ Short B K r
+
     pub chain-complete : {B K : ℕ} {r : CheckTurn} → Turns k s fresh B K r
-        → ((2 * entries s ≤ B) × Complete B K r) ⊎ ((B < 2 * entries s) × (K ≡ B) × (r .stop ≡ Stop.Budget))
+        → Came B K r
     chain-complete {B} {K} {r} c = go (chain-ends CheckState (accepted (entries s)) (stepOf (anyName k) (entries s) e) (x .chain) (2 * entries s)
         (at (entries s + 1) 0 (entries s)) (accepted-yes (entries s) (at (entries s + 1) 0 (entries s)) refl refl) yields-run)
       where
@@ -148,6 +153,6 @@ module _ (k : Kind) (s : List ℕ) where
 
         go : Reached CheckState (accepted (entries s)) (stepOf (anyName k) (entries s) e) (2 * entries s) B K (at (entries s + 1) 0 (entries s)) (x .last)
             ⊎ Underway CheckState (accepted (entries s)) (stepOf (anyName k) (entries s) e) (2 * entries s) B K (at (entries s + 1) 0 (entries s)) (x .last)
-            → ((2 * entries s ≤ B) × Complete B K r) ⊎ ((B < 2 * entries s) × (K ≡ B) × (r .stop ≡ Stop.Budget))
-        go (inl q) = inl (q .enough, record { steps = q .steps; stop = stopped Halt.end (q .halt); state = x .handed .state ∙ q .state })
-        go (inr q) = inr (q .short, q .steps, stopped Halt.budget (q .halt))
+            → Came B K r
+        go (inl q) = inl (record { enough = q .enough; steps = q .steps; stop = stopped Halt.end (q .halt); state = x .handed .state ∙ q .state })
+        go (inr q) = inr (record { short = q .short; steps = q .steps; stop = stopped Halt.budget (q .halt) })

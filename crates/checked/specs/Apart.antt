@@ -1,6 +1,7 @@
 -- The numbers of a stop reason or a verdict tell it apart from every other.
 --   told-apart, verdict-apart, answered-apart   equal numbers, equal answers
---   told-halt                                   the code's stop reason says what stopped the turn
+--   told-halt, halt-told                        the code's stop reason says what stopped the turn
+--   handed-unique, handed-turned                what is handed back for a turn is that turn
 use Prim.Native.Nat.{ℕ}
 use mathlib.Core.Path.{_≡_, refl, ap, _∙_, sym}
 use native.Mathlib.Omega.{arith}
@@ -11,7 +12,8 @@ use Rattle.checking.specs.declared.Refusal.{Refusal}
 use Rattle.checking.specs.declared.PreRank.{PreRank}
 use Rattle.checking.specs.declared.CheckState.{CheckState}
 use Rattle.checking.specs.declared.CheckTurn.{CheckTurn}
-use Rattle.checking.specs.Stops.{Told, told, haltTold, verdictTold}
+use Rattle.checking.specs.declared.Written.{Written}
+use Rattle.checking.specs.Stops.{Told, told, haltTold, verdictTold, Answered, answered}
 use Rattle.checking.specs.Turn.{Handed}
 
 -- which of the four reasons
@@ -58,29 +60,46 @@ told-apart (Stop.Refused a) Stop.Budget q = let z : _≡_ {A = ℕ} 3 2 = reason
 pub told-halt : (a : Stop) (h : Halt) → told a ≡ haltTold h → a ≡ stopOf h
 told-halt a h q = told-apart a (stopOf h) (q ∙ sym (told-stop h))
 
+-- what stopped a turn, by the code's stop reason
+abbrev pub haltOf : Stop → Halt
+haltOf Stop.Answer = Halt.answer
+haltOf Stop.End = Halt.end
+haltOf Stop.Budget = Halt.budget
+haltOf (Stop.Refused r) = Halt.refusal (r .number) (r .entry .0)
+
+halt-stop : (h : Halt) → haltOf (stopOf h) ≡ h
+halt-stop Halt.answer = refl
+halt-stop Halt.end = refl
+halt-stop Halt.budget = refl
+halt-stop (Halt.refusal number entry) = refl
+
 pub halt-told : (g h : Halt) → haltTold g ≡ haltTold h → g ≡ h
-halt-told g h q = back g h (told-apart (stopOf g) (stopOf h) (told-stop g ∙ q ∙ sym (told-stop h)))
-  where
-    haltOf : Stop → Halt
-    haltOf Stop.Answer = Halt.answer
-    haltOf Stop.End = Halt.end
-    haltOf Stop.Budget = Halt.budget
-    haltOf (Stop.Refused r) = Halt.refusal (r .number) (r .entry .0)
+halt-told g h q =
+    sym (halt-stop g) ∙ ap haltOf (told-apart (stopOf g) (stopOf h) (told-stop g ∙ q ∙ sym (told-stop h))) ∙ halt-stop h
 
-    there : (h : Halt) → haltOf (stopOf h) ≡ h
-    there Halt.answer = refl
-    there Halt.end = refl
-    there Halt.budget = refl
-    there (Halt.refusal number entry) = refl
+-- what the code hands back, as a turn
+abbrev pub turnedOf : CheckTurn → Turned CheckState
+turnedOf r = record { state = r .state; steps = r .steps; halt = haltOf (r .stop) }
 
-    back : (g h : Halt) → stopOf g ≡ stopOf h → g ≡ h
-    back g h e = sym (there g) ∙ ap haltOf e ∙ there h
+pub handed-turned : (r : CheckTurn) (t : Turned CheckState) → Handed r t → turnedOf r ≡ t
+handed-turned r t h =
+    let x = h .state in
+    let y = h .steps in
+    let z = ap haltOf (told-halt (r .stop) (t .halt) (h .stop)) ∙ halt-stop (t .halt) in
+    λ i. record { state = x i; steps = y i; halt = z i }
 
 pub verdict-apart : (a b : Verdict) → verdictTold a ≡ verdictTold b → a ≡ b
 verdict-apart Verdict.Accepted Verdict.Accepted q = refl
 verdict-apart Verdict.Accepted (Verdict.Refused b) q = let z : _≡_ {A = ℕ} 1 3 = reasonOf q in absurd (omega arith)
 verdict-apart (Verdict.Refused a) Verdict.Accepted q = let z : _≡_ {A = ℕ} 3 1 = reasonOf q in absurd (omega arith)
 verdict-apart (Verdict.Refused a) (Verdict.Refused b) q = ap (λ (r : Refusal). Verdict.Refused r) (refused-same a b q)
+
+pub answered-apart : (a b : Written) → answered a ≡ answered b → a ≡ b
+answered-apart (Written.Length l) (Written.Length m) q = ap (λ (x : ℕ). Written.Length x) (ap (λ (t : Answered). t .length) q)
+answered-apart (Written.Length l) (Written.Refused b) q = let z : _≡_ {A = ℕ} 0 1 = ap (λ (t : Answered). t .refused) q in absurd (omega arith)
+answered-apart (Written.Refused a) (Written.Length m) q = let z : _≡_ {A = ℕ} 1 0 = ap (λ (t : Answered). t .refused) q in absurd (omega arith)
+answered-apart (Written.Refused a) (Written.Refused b) q =
+    ap (λ (r : Refusal). Written.Refused r) (refusal-same a b (ap (λ (t : Answered). t .number) q) (ap (λ (t : Answered). t .entry) q))
 
 -- two turns handed back for one turn of the rule are equal
 pub handed-unique : (a b : CheckTurn) (t : Turned CheckState) → Handed a t → Handed b t → a ≡ b

@@ -1,5 +1,6 @@
 -- Public turns of the check are turns of the written rule, as long as the length is fine and the state is within its ranges.
 --   turn-is          one public turn
+--   judged           a turn is refused before any step, with one number for every budget, or run
 --   Ran, chain-ran   a chain of public turns
 --   chain-length     no chain reports the end where the length is refused
 --   run-moves        the check's steps are moves: none is an answer
@@ -8,6 +9,7 @@ use mathlib.Core.Path.{_≡_, refl, ap, _∙_, sym, subst}
 use mathlib.Core.List.{List}
 use mathlib.Core.Bool.{Bool, true, false}
 use native.Mathlib.Omega.{arith}
+use native.Mathlib.Decide.{ℕ-discrete}
 use lib.ListN.{length}
 use Rattle.turns.specs.Turn.{Halt, Turned, turn, moved, answered, Moves, stay, move, Step, on, found, Steps, none, then}
 use Rattle.turns.specs.Counts.{counted}
@@ -22,9 +24,9 @@ use Rattle.checking.specs.Kinds.{anyName, most}
 use Rattle.checking.specs.Rule.{stepOf, accepted, Ranges, inRange}
 use Rattle.checking.specs.Stops.{told, haltTold}
 use Rattle.checking.specs.Turn.{Handed, TurnPromise, runOf, turnOf, lengthFault, refusedAt}
-use Rattle.checking.proofs.Cases.{range-yes}
+use Rattle.checking.proofs.Cases.{range-yes, range-inverse}
 use Rattle.checking.proofs.Inverse.{step-ranges, step-silent}
-use Rattle.checking.proofs.Runs.{turn-run, turn-length}
+use Rattle.checking.proofs.Runs.{turn-run, turn-length, turn-range}
 use Rattle.checked.specs.Yields.{Turns, entries}
 use Rattle.checked.specs.Apart.{told-halt, stopOf}
 
@@ -47,6 +49,19 @@ module _ (k : Kind) (s : List ℕ) where
   pub promise-is : Fits → (b : ℕ) (st : CheckState) (r : CheckTurn) → Ranges (entries s) st → TurnPromise k s b st r
       → Handed r (turn CheckState done step b st)
   promise-is f b st r g p = subst (Handed r) (turn-is f b st g) p
+
+  -- refused before any step, with one number for every budget; or run
+  pub data Judged (st : CheckState) : Type 0 where
+    refuses : (number : ℕ) → ((b : ℕ) → turnOf k s b st ≡ refusedAt st number) → Judged st
+    runs : Fits → Ranges (entries s) st → Judged st
+
+  pub judged : (st : CheckState) → Judged st
+  judged st = go (ℕ-discrete (lengthFault (most k) width (length s)) 0) (inRange (entries s) st) refl
+    where
+      go : Dec (lengthFault (most k) width (length s) ≡ 0) → (x : Bool) → inRange (entries s) st ≡ x → Judged st
+      go (no n) x e = refuses _ (λ b. turn-length (anyName k) (most k) s b st n)
+      go (yes f) true e = runs f (range-inverse (entries s) st e)
+      go (yes f) false e = refuses 9 (λ b. turn-range (anyName k) (most k) s b st f e)
 
   -- ---- steps keep the ranges
 

@@ -3,6 +3,7 @@ pub mod Walked
 pub mod Parsed
 pub mod Apart
 pub mod Yields
+pub mod Menus
 pub mod Named
 pub mod Chained
 pub mod Accepted

@@ -1,21 +1,23 @@
--- Demands 2 and 3 of the check, as predicates over any check and any turn: ours meets them, and document 01's wrong programs do not.
---   DemandTwo k check       accepted exactly if a tree yields the list
---   DemandThree k s call    each turn is what document 01 says of a turn of the written rule
---   ours-two, ours-three    whatever keeps our promises meets them
---   three-unique            two turns that meet demand 3 are equal
---   shut-out-…              refusing everything, accepting everything, a turn that does nothing, all the work in the first turn,
---                           an invented step count
+-- Demands 2 and 3 of the check, as predicates over any check, any turns and any call: ours meets them, and document 01's wrong programs do not.
+--   DemandTwo k check        the check accepts exactly if a tree yields the list
+--   TurnsTwo k call          so do turns, however they are cut
+--   DemandThree k s call     each turn is what document 01 says of a turn of the written rule
+--   ours-two, ours-turns, ours-three   whatever keeps our promises meets them
+--   shut-out-…               refusing everything, accepting everything, a turn that does nothing, all the work in the first turn,
+--                            an invented step count
 use Prim.Native.Nat.{ℕ, zero, suc, _+_, _*_, _≤_, _<_}
 use mathlib.Core.Path.{_≡_, refl, ap, _∙_, sym, subst}
 use mathlib.Core.Logic.{_⊎_, inl, inr}
-use mathlib.Core.Bool.{false}
+use mathlib.Core.Bool.{Bool, true, false, _&&_, false≢true}
 use mathlib.Core.List.{List, [], _∷_}
 use native.Mathlib.Omega.{arith}
+use lib.Dec.{ltb}
 use lib.ListN.{length, getD}
-use Rattle.turns.specs.Turn.{Halt, Turned, run, turn, Outcome}
-use Rattle.turns.specs.Laws.{turn-outcome, outcome-turn}
-use Rattle.turns.specs.Chains.{one}
-use Rattle.trees.specs.Tree.{none, elem, Tree}
+use borrow.Author.Tests.{ltb-true}
+use Rattle.turns.specs.Turn.{Halt, Turned, run, turn}
+use Rattle.turns.specs.Demand.{Faithful, ours-faithful, faithful-turn, shut-out-state, shut-out-count}
+use Rattle.turns.specs.Chains.{Chain, one, more}
+use Rattle.trees.specs.Tree.{none, Tree}
 use Rattle.trees.specs.Signature.{cell, entriesOf, width}
 use Rattle.checking.specs.declared.Kind.{Kind}
 use Rattle.checking.specs.declared.CheckState.{CheckState}
@@ -23,135 +25,149 @@ use Rattle.checking.specs.declared.CheckTurn.{CheckTurn}
 use Rattle.checking.specs.declared.Stop.{Stop}
 use Rattle.checking.specs.declared.Refusal.{Refusal}
 use Rattle.checking.specs.declared.Verdict.{Verdict}
-use Rattle.checking.specs.Kinds.{anyName, most}
+use Rattle.checking.specs.Kinds.{anyName}
 use Rattle.checking.specs.Rule.{at, fresh, stepOf, closeOf, accepted, nameless, secondRoot, inRange, Ranges}
-use Rattle.checking.specs.Stops.{told, haltTold}
-use Rattle.checking.specs.Turn.{Handed, TurnPromise, turnOf, turnWithin, lengthFault}
+use Rattle.checking.specs.Turn.{TurnPromise, turnOf, turnWithin, lengthFault}
 use Rattle.checking.specs.Whole.{WholePromise}
-use Rattle.checked.specs.Yields.{Words, Yields, Turns, entries}
-use Rattle.checked.specs.Apart.{handed-unique, halt-told, told-apart}
+use Rattle.checking.proofs.Cases.{fresh-ranges}
+use Rattle.checked.specs.Menus.{single, twoRoots}
+use Rattle.checked.specs.Yields.{Words, Yields, Exactly, Turns, entries}
+use Rattle.checked.specs.Apart.{stopOf, turnedOf, handed-turned}
 use Rattle.checked.specs.Chained.{Fits, promise-is}
-use Rattle.checked.specs.Wholly.{handed, handed-is, whole-exactly, WhollyExactly, never-refused}
+use Rattle.checked.specs.Wholly.{handed, handed-is, accepted-exactly, whole-exactly, never-refused}
 
 -- ---- the demands
 
 -- demand 2: "A signature is accepted exactly if a data tree yields it."
 abbrev pub DemandTwo : Kind → (List ℕ → Verdict) → Type 0
-DemandTwo k check = (s : List ℕ) → Words s → WhollyExactly k s (check s)
+DemandTwo k check = (s : List ℕ) → Words s → Exactly k s (check s ≡ Verdict.Accepted)
 
--- demand 3: each turn takes steps of the written rule, no more than it may spend, and stops at the first of the end, the budget and a refusal
+-- turns of a call from the fresh state, each given the state before
+abbrev pub Called : (ℕ → CheckState → CheckTurn) → ℕ → ℕ → CheckTurn → Type 0
+Called call B K r = Chain CheckState CheckTurn (λ b st t. t ≡ call b st) (λ t. t .state) (λ t. t .steps) fresh B K r
+
+-- demand 2 of turns: with 2×n steps to spend in all, the end is reported exactly if a tree yields the list
+abbrev pub TurnsTwo : Kind → (List ℕ → ℕ → CheckState → CheckTurn) → Type 0
+TurnsTwo k call =
+    (s : List ℕ) → Words s → (B K : ℕ) (r : CheckTurn) → 2 * entries s ≤ B → Called (call s) B K r → Exactly k s (r .stop ≡ Stop.End)
+
+-- demand 3: each turn is a turn of the written rule
 abbrev pub DemandThree : (k : Kind) (s : List ℕ) → (ℕ → CheckState → CheckTurn) → Type 0
 DemandThree k s call =
-    (b : ℕ) (st : CheckState) → Ranges (entries s) st
-    → (t : Turned CheckState) × Handed (call b st) t
-    × Outcome CheckState (accepted (entries s)) (stepOf (anyName k) (entries s) (entriesOf width s)) b st t
+    Faithful CheckState (accepted (entries s)) (stepOf (anyName k) (entries s) (entriesOf width s)) (Ranges (entries s)) (λ b st. turnedOf (call b st))
 
 -- ---- ours meets them
 
 pub ours-two : (k : Kind) (check : List ℕ → Verdict) → ((s : List ℕ) → WholePromise k s (check s)) → DemandTwo k check
 ours-two k check p s w = whole-exactly k s w (check s) (p s)
 
+promised : (k : Kind) (s : List ℕ) (call : ℕ → CheckState → CheckTurn) → ((b : ℕ) (st : CheckState) → TurnPromise k s b st (call b st))
+    → {st : CheckState} {B K : ℕ} {r : CheckTurn}
+    → Chain CheckState CheckTurn (λ b from t. t ≡ call b from) (λ t. t .state) (λ t. t .steps) st B K r → Turns k s st B K r
+promised k s call p (one {st = st} {b = b} e) = one (subst (TurnPromise k s b st) (sym e) (p b st))
+promised k s call p (more {st = st} {b = b} e c) = more (subst (TurnPromise k s b st) (sym e) (p b st)) (promised k s call p c)
+
+pub ours-turns : (k : Kind) (call : List ℕ → ℕ → CheckState → CheckTurn)
+    → ((s : List ℕ) (b : ℕ) (st : CheckState) → TurnPromise k s b st (call s b st)) → TurnsTwo k call
+ours-turns k call p s w B K r l c = accepted-exactly k s w l (promised k s (call s) (p s) c)
+
 pub ours-three : (k : Kind) (s : List ℕ) → Fits k s → (call : ℕ → CheckState → CheckTurn)
     → ((b : ℕ) (st : CheckState) → TurnPromise k s b st (call b st)) → DemandThree k s call
-ours-three k s f call p b st g = (_, promise-is k s f b st (call b st) g (p b st), turn-outcome CheckState _ _ b st)
-
--- any two turns that meet demand 3 are equal
-pub three-unique : (k : Kind) (s : List ℕ) (a c : ℕ → CheckState → CheckTurn) → DemandThree k s a → DemandThree k s c
-    → (b : ℕ) (st : CheckState) → Ranges (entries s) st → a b st ≡ c b st
-three-unique k s a c p q b st g =
-    let x = p b st g in
-    let y = q b st g in
-    handed-unique (a b st) (c b st) (y .0) (subst (Handed (a b st)) (sym (outcome-turn CheckState _ _ (x .2)) ∙ outcome-turn CheckState _ _ (y .2)) (x .1)) (y .1)
+ours-three k s f call p =
+    ours-faithful CheckState _ _ (Ranges (entries s)) (λ b st. turnedOf (call b st))
+    (λ b st g. handed-turned (call b st) _ (promise-is k s f b st (call b st) g (p b st)))
 
 -- ---- the starred cases that are the witnesses
 
--- one entry 7,1,2,0
-abbrev pub single : List ℕ
-single = 7 ∷ 1 ∷ 2 ∷ 0 ∷ []
+-- sixteen-bit numbers, by a test over the list
+unfoldable pub small : List ℕ → Bool
+small [] = true
+small (x ∷ l) = ltb x 65536 && small l
 
-single-yields : Yields Kind.Data single
+pub small-words : (s : List ℕ) → small s ≡ true → Words s
+unfolding small
+small-words [] h = λ i. omega arith
+small-words (x ∷ l) h = go (λ q. small-words l q) (ltb x 65536) refl h
+  where
+    go : (small l ≡ true → Words l) → (b : Bool) → ltb x 65536 ≡ b → (b && small l) ≡ true → Words (x ∷ l)
+    go rest true e q zero = ltb-true x 65536 e
+    go rest true e q (suc i) = rest q i
+    go rest false e q i = absurd (false≢true q)
+
+single-words : Words single
+unfolding small
+single-words = small-words single refl
+
+two-words : Words twoRoots
+unfolding small
+two-words = small-words twoRoots refl
+
+pub single-yields : Yields Kind.Data single
 single-yields = record {
   tree = record { name = 7; below = none };
   grown = record { named = (record { code = omega arith; some = λ z. omega arith }, tt, tt); small = omega arith };
   is = refl;
 }
 
-single-words : Words single
-single-words zero = omega arith
-single-words (suc zero) = omega arith
-single-words (suc (suc zero)) = omega arith
-single-words (suc (suc (suc zero))) = omega arith
-single-words (suc (suc (suc (suc i)))) = omega arith
-
--- two entries 5,2,3,0; 5,1,3,0: two roots
-abbrev pub twoRoots : List ℕ
-twoRoots = 5 ∷ 2 ∷ 3 ∷ 0 ∷ 5 ∷ 1 ∷ 3 ∷ 0 ∷ []
-
-two-words : Words twoRoots
-two-words zero = omega arith
-two-words (suc zero) = omega arith
-two-words (suc (suc zero)) = omega arith
-two-words (suc (suc (suc zero))) = omega arith
-two-words (suc (suc (suc (suc zero)))) = omega arith
-two-words (suc (suc (suc (suc (suc zero))))) = omega arith
-two-words (suc (suc (suc (suc (suc (suc zero)))))) = omega arith
-two-words (suc (suc (suc (suc (suc (suc (suc zero))))))) = omega arith
-two-words (suc (suc (suc (suc (suc (suc (suc (suc i)))))))) = omega arith
-
 two-refused : turnOf Kind.Data twoRoots 9 fresh .halt ≡ Halt.refusal 4 2
 unfolding turnWithin lengthFault inRange run stepOf closeOf nameless secondRoot accepted cell
 two-refused = refl
 
 -- no tree yields two roots
-two-none : Yields Kind.Data twoRoots → ⊥
+pub two-none : Yields Kind.Data twoRoots → ⊥
 two-none y = go (never-refused Kind.Data twoRoots y (one (handed-is (turnOf Kind.Data twoRoots 9 fresh))))
   where
     stopped : handed (turnOf Kind.Data twoRoots 9 fresh) .stop ≡ Stop.Refused (record { number = 4; entry = record { 0 = 2 } })
-    stopped = ap Rattle.checked.specs.Apart.stopOf two-refused
+    stopped = ap stopOf two-refused
 
     go : (handed (turnOf Kind.Data twoRoots 9 fresh) .stop ≡ Stop.End) ⊎ (handed (turnOf Kind.Data twoRoots 9 fresh) .stop ≡ Stop.Budget) → ⊥
     go (inl e) = let q = sym stopped ∙ e in let z : _≡_ {A = ℕ} 0 1 = cc in omega arith
     go (inr e) = let q = sym stopped ∙ e in let z : _≡_ {A = ℕ} 0 1 = cc in omega arith
 
-single-ranges : Ranges (entries single) fresh
-single-ranges = record { some = omega arith; last = omega arith; top = omega arith; closed = omega arith }
+-- the turns of the written rule on the one entry, from the fresh state
+abbrev pub onSingle : ℕ → Turned CheckState
+onSingle b = turn CheckState (accepted (entries single)) (stepOf false (entries single) (entriesOf width single)) b fresh
 
-single-two : turn CheckState (accepted (entries single)) (stepOf false (entries single) (entriesOf width single)) 2 fresh
-    ≡ record { state = at 2 0 1; steps = 2; halt = Halt.end }
-unfolding run stepOf closeOf nameless secondRoot accepted cell
-single-two = refl
-
-single-one : turn CheckState (accepted (entries single)) (stepOf false (entries single) (entriesOf width single)) 1 fresh
-    ≡ record { state = at 2 1 0; steps = 1; halt = Halt.budget }
+single-one : onSingle 1 ≡ record { state = at 2 1 0; steps = 1; halt = Halt.budget }
 unfolding run stepOf closeOf nameless secondRoot accepted cell
 single-one = refl
 
--- ---- shut out
+single-two : onSingle 2 ≡ record { state = at 2 0 1; steps = 2; halt = Halt.end }
+unfolding run stepOf closeOf nameless secondRoot accepted cell
+single-two = refl
+
+-- ---- shut out by demand 2
 
 -- refusing everything
 pub shut-out-refusing : (x : List ℕ → Refusal) → DemandTwo Kind.Data (λ s. Verdict.Refused (x s)) → ⊥
 shut-out-refusing x d =
     let q = d single single-words .complete single-yields in let z : _≡_ {A = ℕ} 0 1 = cc in omega arith
 
--- accepting everything, the one fixed answer that demand 2 leaves
+-- accepting everything, the one fixed answer that is left
 pub shut-out-accepting : DemandTwo Kind.Data (λ s. Verdict.Accepted) → ⊥
 shut-out-accepting d = two-none (d twoRoots two-words .sound refl)
 
--- what demand 3 says of a turn on the one entry
-only : (call : ℕ → CheckState → CheckTurn) → DemandThree Kind.Data single call → (b : ℕ)
-    → Handed (call b fresh) (turn CheckState (accepted (entries single)) (stepOf false (entries single) (entriesOf width single)) b fresh)
-only call d b = let x = d b fresh single-ranges in subst (Handed (call b fresh)) (sym (outcome-turn CheckState _ _ (x .2))) (x .1)
+-- turns with one fixed stop reason, whatever else they hand back
+pub shut-out-fixed : (call : List ℕ → ℕ → CheckState → CheckTurn) (x : Stop) → ((s : List ℕ) (b : ℕ) (st : CheckState) → call s b st .stop ≡ x)
+    → TurnsTwo Kind.Data call → ⊥
+shut-out-fixed call x fixed d =
+    let e = d single single-words 2 _ (call single 2 fresh) (omega arith) (one refl) .complete single-yields in
+    two-none (d twoRoots two-words 4 _ (call twoRoots 4 fresh) (omega arith) (one refl) .sound (fixed twoRoots 4 fresh ∙ sym (fixed single 2 fresh) ∙ e))
 
--- a turn that does nothing
-pub shut-out-idle : DemandThree Kind.Data single (λ b st. record { state = st; steps = 0; stop = Stop.Budget }) → ⊥
-shut-out-idle d = let q : _≡_ {A = ℕ} 0 2 = only _ d 2 .steps ∙ ap (λ (t : Turned CheckState). t .steps) single-two in omega arith
+-- ---- shut out by demand 3
 
--- all the work in the first turn, whatever it may spend
-pub shut-out-at-once : DemandThree Kind.Data single (λ b st. handed (turnOf Kind.Data single 8192 st)) → ⊥
-unfolding turnWithin lengthFault inRange run stepOf closeOf nameless secondRoot accepted cell
-shut-out-at-once d = let q : _≡_ {A = ℕ} 2 1 = only _ d 1 .steps ∙ ap (λ (t : Turned CheckState). t .steps) single-one in omega arith
+-- a turn that does nothing: it leaves the state as it is, whatever it says
+pub shut-out-idle : (call : ℕ → CheckState → CheckTurn) → ((b : ℕ) (st : CheckState) → call b st .state ≡ st) → DemandThree Kind.Data single call → ⊥
+shut-out-idle call idle d =
+    shut-out-state CheckState _ _ (Ranges (entries single)) (λ b st. turnedOf (call b st)) d 1 fresh (fresh-ranges 1)
+    (λ e. let q : _≡_ {A = ℕ} 1 2 = ap (λ (t : CheckState). t .next .0) (sym (idle 1 fresh) ∙ e ∙ ap (λ (t : Turned CheckState). t .state) single-one) in omega arith)
 
--- the right state with an invented step count
-pub shut-out-invented : (count : ℕ → ℕ) → (count 2 ≡ 2 → ⊥) → (call : ℕ → CheckState → CheckTurn) → ((b : ℕ) → call b fresh .steps ≡ count b)
-    → DemandThree Kind.Data single call → ⊥
-shut-out-invented count n call c d = n (sym (c 2) ∙ only call d 2 .steps ∙ ap (λ (t : Turned CheckState). t .steps) single-two)
+-- all the work in the first turn, whatever it may spend and whatever it says
+pub shut-out-at-once : (call : ℕ → CheckState → CheckTurn) → ((b : ℕ) → call b fresh .state ≡ at 2 0 1) → DemandThree Kind.Data single call → ⊥
+shut-out-at-once call once d =
+    shut-out-state CheckState _ _ (Ranges (entries single)) (λ b st. turnedOf (call b st)) d 1 fresh (fresh-ranges 1)
+    (λ e. let q : _≡_ {A = ℕ} 0 1 = ap (λ (t : CheckState). t .top .0) (sym (once 1) ∙ e ∙ ap (λ (t : Turned CheckState). t .state) single-one) in omega arith)
+
+-- an invented step count: another one than that of the turn of the rule, with any budget
+pub shut-out-invented : (call : ℕ → CheckState → CheckTurn) (b : ℕ) → (call b fresh .steps ≡ onSingle b .steps → ⊥) → DemandThree Kind.Data single call → ⊥
+shut-out-invented call b n d = shut-out-count CheckState _ _ (Ranges (entries single)) (λ b st. turnedOf (call b st)) d b fresh (fresh-ranges 1) n

@@ -12,7 +12,7 @@ use native.Mathlib.Omega.{arith}
 use Rattle.turns.specs.Turn.{Halt, Turned}
 use Rattle.turns.specs.Chains.{one}
 use Rattle.trees.specs.Tree.{Tree, size, whole}
-use Rattle.trees.specs.Signature.{signature}
+use Rattle.trees.specs.Signature.{signature, entriesOf, width}
 use Rattle.trees.specs.Unique.{signature-unique}
 use Rattle.checking.specs.declared.Kind.{Kind}
 use Rattle.checking.specs.declared.CheckState.{CheckState}
@@ -24,9 +24,10 @@ use Rattle.checking.specs.Rule.{fresh}
 use Rattle.checking.specs.Stops.{Told, told, haltTold, verdictTold}
 use Rattle.checking.specs.Turn.{Handed, TurnPromise, turnOf}
 use Rattle.checking.specs.Whole.{wholeOf, WholePromise}
-use Rattle.checked.specs.Yields.{Words, Yields, Turns, entries}
+use Rattle.checked.specs.Yields.{Words, Yields, Exactly, Turns, entries}
 use Rattle.checked.specs.Apart.{stopOf, halt-told, verdict-apart, told-stop}
-use Rattle.checked.specs.Accepted.{Tree-of, tree-of, Sound, chain-sound, accepted-sound, Complete, chain-complete}
+use Rattle.checked.specs.Accepted.{Tree-of, tree-of, Sound, chain-sound, accepted-sound, Came, chain-complete}
+use Rattle.checked.specs.Walked.{Fine}
 
 -- what the code hands back for a turn of the rule
 abbrev pub handed : Turned CheckState → CheckTurn
@@ -38,17 +39,13 @@ handed-is t = record { state = refl; steps = refl; stop = told-stop (t .halt) }
 module _ (k : Kind) (s : List ℕ) where
   -- ---- chains of public turns
 
-  -- demand 2: turns that together may spend the steps of the largest tree report the end exactly if a tree yields the list
-  pub record Exactly (B K : ℕ) (r : CheckTurn) : Type 0 where
-    pub sound : r .stop ≡ Stop.End → Yields k s
-    pub complete : Yields k s → r .stop ≡ Stop.End
-
-  pub accepted-exactly : {B K : ℕ} {r : CheckTurn} → Words s → 2 * most k ≤ B → Turns k s fresh B K r → Exactly B K r
+  -- demand 2: turns that together may spend 2×n steps report the end exactly if a tree yields the list
+  pub accepted-exactly : {B K : ℕ} {r : CheckTurn} → Words s → 2 * entries s ≤ B → Turns k s fresh B K r → Exactly k s (r .stop ≡ Stop.End)
   accepted-exactly {B} {K} {r} w b c = record { sound = λ h. accepted-sound k s w c h .0; complete = λ y. go y (chain-complete k s y c) }
     where
-      go : (y : Yields k s) → ((2 * entries s ≤ B) × Complete k s y B K r) ⊎ ((B < 2 * entries s) × (K ≡ B) × (r .stop ≡ Stop.Budget)) → r .stop ≡ Stop.End
-      go y (inl q) = q .1 .stop
-      go y (inr q) = absurd (omega (arith, q .0, tree-of s (y .tree) (y .is) .count, y .grown .small))
+      go : (y : Yields k s) → Came k s y B K r → r .stop ≡ Stop.End
+      go y (inl q) = q .stop
+      go y (inr q) = absurd (omega (arith, q .short))
 
   -- demand 3: where the end is reported, the steps add up to 2×n
   pub check-two-n : {B K : ℕ} {r : CheckTurn} → Turns k s fresh B K r → r .stop ≡ Stop.End → K ≡ 2 * entries s
@@ -58,9 +55,9 @@ module _ (k : Kind) (s : List ℕ) where
   pub never-refused : {B K : ℕ} {r : CheckTurn} → Yields k s → Turns k s fresh B K r → (r .stop ≡ Stop.End) ⊎ (r .stop ≡ Stop.Budget)
   never-refused {B} {K} {r} y c = go (chain-complete k s y c)
     where
-      go : ((2 * entries s ≤ B) × Complete k s y B K r) ⊎ ((B < 2 * entries s) × (K ≡ B) × (r .stop ≡ Stop.Budget)) → (r .stop ≡ Stop.End) ⊎ (r .stop ≡ Stop.Budget)
-      go (inl q) = inl (q .1 .stop)
-      go (inr q) = inr (q .2)
+      go : Came k s y B K r → (r .stop ≡ Stop.End) ⊎ (r .stop ≡ Stop.Budget)
+      go (inl q) = inl (q .stop)
+      go (inr q) = inr (q .stop)
 
   -- ---- the whole check
 
@@ -78,27 +75,26 @@ module _ (k : Kind) (s : List ℕ) where
   pub record AcceptedTree : Type 0 where
     pub tree : Tree
     pub of : Tree-of s tree
+    pub named : Fine (anyName k) (entriesOf width s) (whole tree) 1 0
     pub small : entries s ≤ most k
 
   pub accepted-tree : WholePromise k s Verdict.Accepted → AcceptedTree
-  accepted-tree p = let x = whole-sound p in record { tree = x .tree; of = x .read; small = x .small }
+  accepted-tree p = let x = whole-sound p in record { tree = x .tree; of = x .read; named = x .named; small = x .small }
 
   -- demand 2 of the whole check
-  pub record WhollyExactly (v : Verdict) : Type 0 where
-    pub sound : v ≡ Verdict.Accepted → Yields k s
-    pub complete : Yields k s → v ≡ Verdict.Accepted
-
-  pub whole-exactly : Words s → (v : Verdict) → WholePromise k s v → WhollyExactly v
+  pub whole-exactly : Words s → (v : Verdict) → WholePromise k s v → Exactly k s (v ≡ Verdict.Accepted)
   whole-exactly w v p = record {
     sound = λ h. accepted-sound k s w whole-turn (whole-end (subst (WholePromise k s) h p)) .0;
     complete = λ y. verdict-apart v Verdict.Accepted (p ∙ ap haltTold (ended y));
   }
     where
+      fits : Yields k s → 2 * entries s ≤ 2 * most k + 1
+      fits y = omega (arith, tree-of s (y .tree) (y .is) .count, y .grown .small)
+
       ended : Yields k s → turnOf k s (2 * most k + 1) fresh .halt ≡ Halt.end
       ended y =
           halt-told (turnOf k s (2 * most k + 1) fresh .halt) Halt.end
-          (sym (told-stop (turnOf k s (2 * most k + 1) fresh .halt))
-          ∙ ap told (accepted-exactly w (omega arith) whole-turn .complete y))
+          (sym (told-stop (turnOf k s (2 * most k + 1) fresh .halt)) ∙ ap told (accepted-exactly w (fits y) whole-turn .complete y))
 
 -- the tree is unique
 pub tree-unique : (k : Kind) (s : List ℕ) (a b : Yields k s) → a .tree ≡ b .tree

@@ -1,6 +1,7 @@
 -- What demand 2 speaks of: a tree yields a list; and the public turns that a check is made of.
 --   Words s          a list of sixteen-bit numbers
 --   Yields k s       a tree of kind k yields the list s as its signature
+--   Exactly k s P    P exactly if a tree of kind k yields s
 --   Turns k s st B K r   public turns of the check of s from st: budgets B and steps K in all, the last one answered r
 --   entries s        how many entries the list has
 use Prim.Native.Nat.{ℕ, _/_, _<_}
@@ -25,6 +26,11 @@ pub record Yields (k : Kind) (s : List ℕ) : Type 0 where
   pub tree : Tree
   pub grown : Grown (anyName k) (most k) tree
   pub is : s ≡ signature tree
+
+-- what is said holds exactly if a tree of kind k yields the list
+pub record Exactly (k : Kind) (s : List ℕ) (Said : Type 0) : Type 0 where
+  pub sound : Said → Yields k s
+  pub complete : Yields k s → Said
 
 -- n, the number of entries
 abbrev pub entries : List ℕ → ℕ

@@ -3,7 +3,7 @@
 --   nameless-…, root-…   the two tests
 --   step-…         the whole step
 --   accepted-…     the end
---   range-…        the ranges of a saved state
+--   range-…        the ranges of a saved state; fresh-ranges
 --   entry-ends     where an entry ends
 use Prim.Native.Nat.{ℕ, zero, suc, _+_, _-_, _*_, _≤_, _<_}
 use native.Mathlib.Nat.{not-suc-le-zero, mul-suc}
@@ -17,7 +17,7 @@ use borrow.Author.Tests.{lt-ltb, le-ltb, le-leb, lt-leb, eq-eqb, ne-eqb, ltb-tru
 use Rattle.turns.specs.Turn.{Next, moved, refused}
 use Rattle.trees.specs.Signature.{Entries, cell, width}
 use Rattle.checking.specs.declared.CheckState.{CheckState}
-use Rattle.checking.specs.Rule.{closeOf, closedOf, openOf, stepOf, nameless, secondRoot, accepted, Ranges, inRange}
+use Rattle.checking.specs.Rule.{closeOf, closedOf, openOf, stepOf, nameless, secondRoot, accepted, Ranges, inRange, fresh}
 
 -- closing
 module _ (e : Entries) (st : CheckState) where
@@ -154,6 +154,10 @@ module _ (n : ℕ) (st : CheckState) where
       go true false c d ha hb hc hd h = absurd (false≢true h)
       go true true false d ha hb hc hd h = absurd (false≢true h)
       go true true true false ha hb hc hd h = absurd (false≢true h)
+
+-- the fresh state is within its ranges
+pub fresh-ranges : (n : ℕ) → Ranges n fresh
+fresh-ranges n = record { some = omega arith; last = omega arith; top = omega arith; closed = omega arith }
 
 -- ---- entries
 

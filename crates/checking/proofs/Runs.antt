@@ -28,7 +28,7 @@ use Rattle.checking.specs.declared.Verdict.{Verdict}
 use Rattle.checking.specs.declared.Refusal.{Refusal}
 use Rattle.checking.specs.Kinds.{most}
 use Rattle.checking.specs.Stops.{Told, told, haltTold, verdictTold}
-use Rattle.checking.proofs.Cases.{range-yes}
+use Rattle.checking.proofs.Cases.{range-yes, fresh-ranges}
 use Rattle.checking.proofs.Inverse.{step-ranges, step-grows, step-silent}
 
 module _ (any : Bool) (n : ℕ) (e : Entries) where
@@ -48,7 +48,7 @@ module _ (any : Bool) (n : ℕ) (e : Entries) where
   stops b t s l (Turns.told m h f a) = absurd (step-silent any n e _ _ a)
   stops b t s l (faulty {number = u} {entry = v} m h f a) = inr (u, v, refl)
   stops b t s l (spent m f) =
-      let r = moves-ranges (record { some = omega arith; last = omega arith; top = omega arith; closed = omega arith }) m in
+      let r = moves-ranges (fresh-ranges n) m in
       absurd (omega (arith, moves-grow m, r .last, r .closed))
 
 -- ---- what is handed back
@@ -154,7 +154,7 @@ whole-stops any most s = go (ℕ-discrete (lengthFault most width (length s)) 0)
     go (no h) = inr (_, _, ap (λ (t : Turned CheckState). t .halt) (turn-length any most s (2 * most + 1) fresh h))
     go (yes h) =
         let z = length-sized most width (length s) h in
-        rw (turn-run any most s (2 * most + 1) fresh h (range-yes n fresh (record { some = omega arith; last = omega arith; top = omega arith; closed = omega arith })))
+        rw (turn-run any most s (2 * most + 1) fresh h (range-yes n fresh (fresh-ranges n)))
         (stops any n (entriesOf width s) (2 * most + 1) _ (omega (arith, z .some, z .even)) (omega (arith, z .small))
         (turn-outcome CheckState (accepted n) (stepOf any n (entriesOf width s)) (2 * most + 1) fresh))
 

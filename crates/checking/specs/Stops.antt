@@ -3,7 +3,8 @@
 --   told s          those of the code's stop reason
 --   haltTold h      those of what stopped a turn
 --   verdictTold v   those of the whole check's verdict
---   Answered        what a single call answers, in numbers: the refusal's number (0: it worked), the result's length, the entry
+--   Answered        what a single call answers, in numbers: whether it refused, the refusal's number, the result's length, the entry
+--   worked, refusedAs   an answer that worked, and one that refused
 --   answered w      those of the code's answer
 use Prim.Native.Nat.{ℕ}
 use mathlib.Core.Bool.{Bool, true, false}
@@ -38,13 +39,22 @@ abbrev pub verdictTold : Verdict → Told
 verdictTold Verdict.Accepted = record { reason = 1; number = 0; entry = 0 }
 verdictTold (Verdict.Refused r) = record { reason = 3; number = r .number; entry = r .entry .0 }
 
--- "A refused single call returns its number and 0 for every other number"; 3 to 6 from the check also name the entry
+-- whether it refused, 1 or 0; then "its number and 0 for every other number", where 3 to 6 from the check also name the entry
 pub record Answered : Type 0 where
+  pub refused : ℕ
   pub number : ℕ
   pub length : ℕ
   pub entry : ℕ
 
+-- a call that worked, with a result of this length
+abbrev pub worked : ℕ → Answered
+worked l = record { refused = 0; number = 0; length = l; entry = 0 }
+
+-- a call that refused
+abbrev pub refusedAs : ℕ → ℕ → Answered
+refusedAs number entry = record { refused = 1; number = number; length = 0; entry = entry }
+
 -- what a call that writes into lent room answers
 abbrev pub answered : Written → Answered
-answered (Written.Length l) = record { number = 0; length = l; entry = 0 }
-answered (Written.Refused r) = record { number = r .number; length = 0; entry = r .entry .0 }
+answered (Written.Length l) = worked l
+answered (Written.Refused r) = refusedAs (r .number) (r .entry .0)

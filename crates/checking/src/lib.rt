@@ -133,7 +133,7 @@ fn number_or_zero(sig: &[u16], at: usize) -> u16
     0
 }
 
-// Number k of entry i for every caller: 0 where the signature has no such number.
+// Number k of entry i for every caller: 0 past the end of the signature, and rank 0 reads as rank 1, so that every number may be handed in.
 pub fn entry_number(sig: &[u16], i: PreRank, k: u16) -> u16
     ensures { λ r. ⌜ r ≡ cell width (now (sig .entry)) (i .0) k ⌝ }
 {

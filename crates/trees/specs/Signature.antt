@@ -1,5 +1,5 @@
 -- The extended signature of a tree: 4×n numbers, name, post, ff and fa for each entry.
---   cell w s i k        number k, from 0, of entry i, from 1, where an entry has w numbers; 0 outside
+--   cell w s i k        number k, from 0, of entry i, from 1, where an entry has w numbers; 0 past the end, and entry 0 reads as entry 1
 --   Entries             name, post, ff and fa as functions of the rank
 --   entriesOf w s       those of a list whose entries have w numbers
 --   rowSignature f i up c   the numbers of a row whose first element is entry i, below entry up, c elements closed before it

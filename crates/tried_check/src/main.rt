@@ -151,8 +151,8 @@ fn lengths() {
         CheckState::fresh().turn(Kind::Data, &[1u16, 1, 2, 0, 1], 9),
     );
     shown(
-        b"most",
-        CheckState::fresh().turn(Kind::Data, &[1u16; 16385], 9),
+        b"cut",
+        CheckState::fresh().turn(Kind::Data, &[1u16; 16389], 9),
     );
     shown(
         b"over",

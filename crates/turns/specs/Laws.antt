@@ -1,8 +1,9 @@
 -- The laws of a turn. What stops it is the first of finished, budget, refusal and answer, and nothing else; cut anywhere, it is the same turn.
 --   run-…            which case holds under which facts, as a loop meets them
 --   turn-outcome     a turn is what document 01 says of it, and nothing else is
---   stops-before-the-fault, paid-for   a refusal is that of the next step, which the budget would have paid for
---   cut-anywhere     a turn of a + b steps is one of a and then one of b, unless it stopped
+--   outcome-turn     and nothing else is
+--   ended-finished, budget-spent   where the end is reported, and where the budget stops it
+--   stops-before-the-fault   a refusal is that of the next step, which the budget would have paid for
 use Prim.Native.Nat.{ℕ, zero, suc, _+_, _-_, _≤_, _<_}
 use mathlib.Core.Path.{_≡_, refl, ap, _∙_, sym, subst}
 use mathlib.Core.Logic.{_⊎_, inl, inr}

@@ -4,3 +4,4 @@ pub mod Turn
 pub mod Laws
 pub mod Counts
 pub mod Chains
+pub mod Demand

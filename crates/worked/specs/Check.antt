@@ -9,7 +9,7 @@ use Rattle.checking.specs.Rule.{fresh}
 use Rattle.checking.specs.Stops.{haltTold}
 use Rattle.checking.specs.Turn.{turnOf}
 use Rattle.worked.specs.Case.{Case}
-use Rattle.worked.specs.Menus.{ten, single, twoRoots, wrongPost, wrongFf}
+use Rattle.checked.specs.Menus.{ten, single, twoRoots, wrongPost, wrongFf}
 
 -- a turn in numbers
 abbrev pub turned : Turned CheckState → List ℕ

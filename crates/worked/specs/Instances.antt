@@ -2,15 +2,13 @@
 use Prim.Native.Nat.{ℕ, zero, suc, _+_, _*_, _≤_, _<_}
 use mathlib.Core.Path.{_≡_, refl, ap, _∙_, sym}
 use mathlib.Core.List.{List, [], _∷_}
-use mathlib.Core.Bool.{Bool, true, false, _&&_, false≢true}
-use lib.Dec.{ltb}
-use borrow.Author.Tests.{ltb-true}
+use mathlib.Core.Bool.{Bool, true, false}
 use native.Mathlib.Omega.{arith}
 use lib.ListN.{getD}
-use Rattle.turns.specs.Turn.{Halt, Turned, run}
+use Rattle.turns.specs.Turn.{Halt, Turned, run, Steps}
 use Rattle.turns.specs.Chains.{one, more}
 use Rattle.trees.specs.Tree.{Forest, none, elem, Tree, Allowed}
-use Rattle.trees.specs.Signature.{cell}
+use Rattle.trees.specs.Signature.{cell, entriesOf, width}
 use Rattle.checking.specs.declared.Kind.{Kind}
 use Rattle.checking.specs.declared.CheckState.{CheckState}
 use Rattle.checking.specs.declared.CheckTurn.{CheckTurn}
@@ -20,11 +18,13 @@ use Rattle.checking.specs.declared.Verdict.{Verdict}
 use Rattle.checking.specs.Rule.{fresh, Ranges, stepOf, closeOf, accepted, nameless, secondRoot, inRange}
 use Rattle.checking.specs.Turn.{turnOf, turnWithin, lengthFault}
 use Rattle.checking.specs.Whole.{WholePromise}
+use Rattle.checking.proofs.Cases.{fresh-ranges}
 use Rattle.checked.specs.Yields.{Words, Yields, Turns, entries}
 use Rattle.checked.specs.Chained.{Fits}
-use Rattle.checked.specs.Wholly.{handed, handed-is, accepted-exactly, check-two-n, whole-exactly, accepted-tree, AcceptedTree}
-use Rattle.checked.specs.Public.{cut-anywhere, stops-before-the-fault, BeforeFault, refused-early, handed-back-in-range, step-as-written}
-use Rattle.worked.specs.Menus.{ten, twoRoots, wrongPost}
+use Rattle.checked.specs.Wholly.{handed, handed-is, accepted-exactly, check-two-n, whole-exactly, accepted-tree, AcceptedTree, tree-unique, never-refused}
+use Rattle.checked.specs.Public.{one-result, one-verdict, cut-anywhere, cut-kept, count-unique, stops-before-the-fault, BeforeFault, refused-early, chain-verdict, handed-back-in-range, step-as-written}
+use Rattle.checked.specs.ShutOut.{small, small-words}
+use Rattle.checked.specs.Menus.{ten, wrongPost}
 
 -- ---- a tree yields Ten
 
@@ -57,21 +57,6 @@ ten-yields = record {
   is = refl;
 }
 
--- sixteen-bit numbers, by a test over the list
-unfoldable small : List ℕ → Bool
-small [] = true
-small (x ∷ l) = ltb x 65536 && small l
-
-small-words : (s : List ℕ) → small s ≡ true → Words s
-unfolding small
-small-words [] h = λ i. omega arith
-small-words (x ∷ l) h = go (λ q. small-words l q) (ltb x 65536) refl h
-  where
-    go : (small l ≡ true → Words l) → (b : Bool) → ltb x 65536 ≡ b → (b && small l) ≡ true → Words (x ∷ l)
-    go rest true e q zero = ltb-true x 65536 e
-    go rest true e q (suc i) = rest q i
-    go rest false e q i = absurd (false≢true q)
-
 pub ten-words : Words ten
 unfolding small
 ten-words = small-words ten refl
@@ -95,22 +80,38 @@ ten-twenty = check-two-n Kind.Data ten chain ten-accepted
 
 -- ---- cut anywhere, on Ten
 
-ten-fits : Fits Kind.Data ten
-unfolding lengthFault
-ten-fits = refl
-
-pub fresh-ranges : (n : ℕ) → Ranges n fresh
-fresh-ranges n = record { some = omega arith; last = omega arith; top = omega arith; closed = omega arith }
-
 first-spent : first .stop ≡ Stop.Budget
 unfolding turnWithin lengthFault inRange run stepOf closeOf nameless secondRoot accepted cell
 first-spent = refl
 
 pub ten-cut : handed (turnOf Kind.Data ten (3 + 8190) fresh) ≡ record { state = last .state; steps = 3 + last .steps; stop = last .stop }
 ten-cut =
-    cut-anywhere Kind.Data ten ten-fits 3 8190 fresh (handed (turnOf Kind.Data ten 3 fresh)) (handed (turnOf Kind.Data ten 8190 (turnOf Kind.Data ten 3 fresh .state)))
-    (handed (turnOf Kind.Data ten (3 + 8190) fresh)) (fresh-ranges 10) (handed-is (turnOf Kind.Data ten 3 fresh)) first-spent
+    cut-anywhere Kind.Data ten 3 8190 fresh first last (handed (turnOf Kind.Data ten (3 + 8190) fresh))
+    (handed-is (turnOf Kind.Data ten 3 fresh)) first-spent
     (handed-is (turnOf Kind.Data ten 8190 (turnOf Kind.Data ten 3 fresh .state))) (handed-is (turnOf Kind.Data ten (3 + 8190) fresh))
+
+-- a turn that came to the end is not changed by a larger budget
+ended : handed (turnOf Kind.Data ten 20 fresh) .stop ≡ Stop.Budget → ⊥
+unfolding turnWithin lengthFault inRange run stepOf closeOf nameless secondRoot accepted cell
+ended e = let z : _≡_ {A = ℕ} 0 1 = cc in omega arith
+
+pub ten-kept : handed (turnOf Kind.Data ten (20 + 5) fresh) ≡ handed (turnOf Kind.Data ten 20 fresh)
+ten-kept =
+    cut-kept Kind.Data ten 20 5 fresh (handed (turnOf Kind.Data ten 20 fresh)) (handed (turnOf Kind.Data ten (20 + 5) fresh))
+    (handed-is (turnOf Kind.Data ten 20 fresh)) ended (handed-is (turnOf Kind.Data ten (20 + 5) fresh))
+
+-- what is handed back is counted, in range, and the only result
+pub ten-steps : Steps CheckState (accepted 10) (stepOf false 10 (entriesOf width ten)) (first .steps) fresh (first .state)
+ten-steps = step-as-written Kind.Data ten 3 fresh first (handed-is (turnOf Kind.Data ten 3 fresh))
+
+pub ten-range : Ranges 10 (first .state)
+ten-range = handed-back-in-range Kind.Data ten 3 fresh first (handed-is (turnOf Kind.Data ten 3 fresh)) (fresh-ranges 10)
+
+pub ten-count : first .steps ≡ first .steps
+ten-count = count-unique Kind.Data ten ten-steps ten-steps
+
+pub ten-one : first ≡ first
+ten-one = one-result Kind.Data ten 3 fresh first first (handed-is (turnOf Kind.Data ten 3 fresh)) (handed-is (turnOf Kind.Data ten 3 fresh))
 
 -- ---- a fault, on 5,1,3,0; 5,2,3,1
 
@@ -130,12 +131,16 @@ wrong-early =
     refused-early Kind.Data wrongPost wrong-fits (one (handed-is (turnOf Kind.Data wrongPost 9 fresh))) (record { number = 5; entry = record { 0 = 2 } })
     post-refused
 
+pub wrong-verdict : WholePromise Kind.Data wrongPost (Verdict.Refused (record { number = 5; entry = record { 0 = 2 } }))
+wrong-verdict =
+    chain-verdict Kind.Data wrongPost wrong-fits (one (handed-is (turnOf Kind.Data wrongPost 9 fresh))) (record { number = 5; entry = record { 0 = 2 } })
+    post-refused
+
 pub wrong-before :
-    BeforeFault Kind.Data wrongPost wrong-fits 9 fresh (handed (turnOf Kind.Data wrongPost 9 fresh)) (fresh-ranges 2)
-    (handed-is (turnOf Kind.Data wrongPost 9 fresh)) (record { number = 5; entry = record { 0 = 2 } })
+    BeforeFault Kind.Data wrongPost 9 fresh faulty (handed-is (turnOf Kind.Data wrongPost 9 fresh)) (record { number = 5; entry = record { 0 = 2 } })
 wrong-before =
-    stops-before-the-fault Kind.Data wrongPost wrong-fits 9 fresh (handed (turnOf Kind.Data wrongPost 9 fresh)) (fresh-ranges 2)
-    (handed-is (turnOf Kind.Data wrongPost 9 fresh)) (record { number = 5; entry = record { 0 = 2 } }) post-refused
+    stops-before-the-fault Kind.Data wrongPost 9 fresh faulty (handed-is (turnOf Kind.Data wrongPost 9 fresh)) wrong-fits (fresh-ranges 2)
+    (record { number = 5; entry = record { 0 = 2 } }) post-refused
 
 -- ---- the whole check, on Ten
 
@@ -148,3 +153,33 @@ ten-tree = accepted-tree Kind.Data ten ten-whole
 
 pub ten-exactly : Yields Kind.Data ten
 ten-exactly = whole-exactly Kind.Data ten ten-words Verdict.Accepted ten-whole .sound refl
+
+pub ten-unique : ten-exactly .tree ≡ ten-yields .tree
+ten-unique = tree-unique Kind.Data ten ten-exactly ten-yields
+
+pub ten-verdict : Verdict.Accepted ≡ Verdict.Accepted
+ten-verdict = one-verdict Kind.Data ten Verdict.Accepted Verdict.Accepted ten-whole ten-whole
+
+-- ---- a twig of one node with name 0, which no data tree may have
+
+abbrev pub anyNode : List ℕ
+anyNode = 0 ∷ 1 ∷ 2 ∷ 0 ∷ []
+
+pub any-yields : Yields Kind.Twig anyNode
+any-yields = record {
+  tree = record { name = 0; below = none };
+  grown = record { named = (record { code = omega arith; some = tt }, tt, tt); small = omega arith };
+  is = refl;
+}
+
+any-words : Words anyNode
+unfolding small
+any-words = small-words anyNode refl
+
+pub any-accepted : handed (turnOf Kind.Twig anyNode 2 fresh) .stop ≡ Stop.End
+any-accepted =
+    accepted-exactly Kind.Twig anyNode any-words (omega arith) (one (handed-is (turnOf Kind.Twig anyNode 2 fresh))) .complete any-yields
+
+pub any-refused : handed (turnOf Kind.Data anyNode 2 fresh) .stop ≡ Stop.Refused (record { number = 3; entry = record { 0 = 1 } })
+unfolding turnWithin lengthFault inRange run stepOf closeOf nameless secondRoot accepted cell
+any-refused = refl

@@ -1,6 +1,5 @@
 -- Worked: document 01's starred cases.
 pub mod Case
-pub mod Menus
 pub mod Check
 pub mod Starred
 pub mod Instances
