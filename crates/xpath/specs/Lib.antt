@@ -1,0 +1,7 @@
+-- XPath's axes over ranks: the definitions, and the laws that the code of the axes goes by.
+-- Definitions
+pub mod Select
+pub mod Axes
+-- Laws
+pub mod SelectLaws
+pub mod Ancestors
