@@ -14,12 +14,12 @@ use Rattle.turns.specs.Pick.{pick}
 use Rattle.trees.specs.Signature.{Entries}
 use Rattle.trees.specs.Facts.{Each, Inside, Follows, Facts}
 use Rattle.trees.specs.Order.{lt-or-ge}
-use Rattle.xpath.specs.Axes.{met, ancestorOf, wholeBefore}
+use Rattle.xpath.specs.Axes.{met, parentOf, wholeBefore}
 
 module _ (n : ℕ) (e : Entries) (f : Facts n e) where
   -- one step up, where there is a parent
   step : (k a j : ℕ) → (e .fa j ≡ 0 → ⊥) → met (e .fa) (suc k) a j ≡ (eqb (e .fa j) a || met (e .fa) k a (e .fa j))
-  unfolding met
+  unfolding met parentOf
   step k a j h = simp (ne-eqb _ _ h)
 
   pub inside-yes : (k a j : ℕ) → 1 ≤ a → a < j → j ≤ n → j ≤ k → j < e .ff a → met (e .fa) k a j ≡ true
@@ -68,10 +68,12 @@ module _ (n : ℕ) (e : Entries) (f : Facts n e) where
   -- ---- "after the context in document order and no descendant"
 
   pub whole-yes : (a j : ℕ) → 1 ≤ a → a ≤ n → j ≤ n → e .ff a ≤ j → wholeBefore n (e .fa) a j ≡ true
+  unfolding wholeBefore
   whole-yes a j la ha h w =
       let l : a < j = omega (arith, f .each a la ha .ff-low) in
       simp (lt-ltb a j l, inside-no n a j la (omega arith) h (λ q. w))
 
   pub whole-no : (a j : ℕ) → 1 ≤ a → a ≤ n → j ≤ n → j < e .ff a → wholeBefore n (e .fa) a j ≡ false
+  unfolding wholeBefore
   whole-no a j la ha h w =
       ⊎-elim (λ (l : a < j). simp (lt-ltb a j l, inside-yes n a j la l h h w)) (λ (g : j ≤ a). simp (le-ltb a j g)) (lt-or-ge a j)

@@ -5,3 +5,6 @@ pub mod Axes
 -- Laws
 pub mod SelectLaws
 pub mod Ancestors
+pub mod Levels
+pub mod Rising
+pub mod Kept

@@ -1,6 +1,7 @@
 -- Laws of selecting.
 --   up-yes, up-no        the next rank is taken exactly if it passes
 --   up-same              tests that agree on 1 to n select the same
+--   up-none, up-one      nothing passes; two tests that differ at one rank
 --   up-grows             more ranks select no less
 --   up-length            no more are selected than there are
 --   up-written           where a room holds what is selected up to i at its front, one more store makes it up to i + 1
@@ -9,7 +10,7 @@
 use Prim.Native.Nat.{ℕ, zero, suc, _+_, _≤_, _<_}
 use mathlib.Core.Path.{_≡_, refl, ap, _∙_, sym, subst}
 use mathlib.Core.List.{List, [], _∷_, _++_, append-assoc}
-use mathlib.Core.Bool.{Bool, true, false, _||_, or-true, or-false, or-assoc}
+use mathlib.Core.Bool.{Bool, true, false, _||_, or-true, or-false, or-assoc, true≢false, false≢true}
 use native.Mathlib.Omega.{arith}
 use native.Mathlib.Numerals.{add-one}
 use native.Mathlib.Nat.{eq-or-lt-of-le}
@@ -59,6 +60,34 @@ up-same P Q (suc n) h =
     ap (λ (b : Bool). pick b (upTo n P ++ (suc n ∷ [])) (upTo n P)) (h (suc n) (omega arith) (omega arith))
     ∙ ap (λ (l : List ℕ). pick (Q (suc n)) (l ++ (suc n ∷ [])) l) (up-same P Q n (λ j l m. h j l (omega arith)))
 
+pub up-none : (P : ℕ → Bool) (n : ℕ) → ((j : ℕ) → 1 ≤ j → j ≤ n → P j ≡ false) → upTo n P ≡ []
+unfolding upTo
+up-none P zero h = refl
+up-none P (suc n) h = simp (h (suc n) (omega arith) (omega arith)) (up-none P n (λ j l m. h j l (omega arith)))
+
+-- one more rank passes the first test
+pub up-one : (P Q : ℕ → Bool) (n p : ℕ) → 1 ≤ p → p ≤ n → P p ≡ true → Q p ≡ false
+    → ((j : ℕ) → 1 ≤ j → j ≤ n → (j ≡ p → ⊥) → P j ≡ Q j) → length (upTo n P) ≡ length (upTo n Q) + 1
+unfolding upTo
+up-one P Q zero p l h hit miss same = absurd (omega arith)
+up-one P Q (suc n) p l h hit miss same =
+    ⊎-elim (λ (e : p ≡ suc n). here e) (λ (m : p < suc n). there (P (suc n)) (Q (suc n)) (same (suc n) (omega arith) (omega arith) (omega arith))
+    (up-one P Q n p l (omega arith) hit miss (λ j a b c. same j a (omega arith) c)))
+    (eq-or-lt-of-le h)
+  where
+    here : p ≡ suc n → length (upTo (suc n) P) ≡ length (upTo (suc n) Q) + 1
+    here e =
+        let y : P (suc n) ≡ true = ap P (sym e) ∙ hit in
+        let x : Q (suc n) ≡ false = ap Q (sym e) ∙ miss in
+        simp (y, x, length-append) (omega (arith, ap length (up-same P Q n (λ j a b. same j a (omega arith) (omega arith)))))
+
+    there : (a b : Bool) → a ≡ b → length (upTo n P) ≡ length (upTo n Q) + 1
+        → length (pick a (upTo n P ++ (suc n ∷ [])) (upTo n P)) ≡ length (pick b (upTo n Q ++ (suc n ∷ [])) (upTo n Q)) + 1
+    there true true e q = simp length-append (omega arith)
+    there false false e q = q
+    there true false e q = absurd (true≢false e)
+    there false true e q = absurd (false≢true e)
+
 -- ---- writing what is selected
 
 -- a room that holds l at its front and is as it was beyond it
@@ -89,3 +118,6 @@ unfolding some
 some-same P Q [] h = refl
 some-same P Q (c ∷ l) h =
     ap (λ (b : Bool). b || some P l) (h 0 (omega arith)) ∙ ap (λ (b : Bool). Q c || b) (some-same P Q l (λ k g. h (suc k) (omega arith)))
+
+pub front-length : (l room : List ℕ) → length l ≤ length room → length (front l room) ≡ length room
+front-length l room h = simp (length-append, length-drop) (omega arith)
