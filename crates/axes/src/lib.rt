@@ -18,11 +18,11 @@ ghost use Rattle.checking.specs.Stops.{answered};
 ghost use Rattle.checked.specs.Yields.{entries};
 ghost use Rattle.xpath.specs.Select.{upTo, some, rises, within};
 ghost use Rattle.xpath.specs.SelectLaws.{front};
-ghost use Rattle.xpath.specs.Axes.{parentOf, ancestorOf, ancestorOrSelf, wholeBefore, siblingBefore, onAxis, passes, chosen, kept, inAnswer, levelOf};
+ghost use Rattle.xpath.specs.Axes.{parentOf, ancestorOf, ancestorOrSelf, wholeBefore, siblingBefore, onAxis, passes, chosen, kept, inAnswer, answerOf, levelOf};
 ghost use Rattle.axes.specs.Checked.{isRank, Ready};
 ghost use Rattle.axes.specs.Level.{levelTold, levelWithin, LevelPromise};
 ghost use Rattle.axes.specs.Block.{placeTold, placeWithin, PlacePromise, BlockPromise};
-ghost use Rattle.axes.specs.Axis.{argumentsFine, answerIn, roomFor, axisWithin, Leaves, AxisPromise};
+ghost use Rattle.axes.specs.Axis.{argumentsFine, roomFor, axisWithin, Leaves, AxisPromise};
 ghost use Rattle.axes.specs.Marks.{marked, Marks, keptAt};
 
 // The level of an entry, or why it is refused.
@@ -360,8 +360,8 @@ fn write_marks(n: u16, marks: &[u8; 4097], room: &mut [u16])
 
 // What an axis call without a refused argument answers and leaves.
 fn select(sig: &[u16], n: u16, contexts: &[u16], axis: u16, test: u16, p: u16, room: &mut [u16]) -> Written
-    requires { ⌜ Ready (now sig) n × (n ≡ entries (now sig)) × (axis ≤ 10) × (within n (now contexts) ≡ true) ⌝ }
-    ensures { λ r. ⌜ Leaves (roomFor (now (room .entry)) (answerIn (now (sig .entry)) (now (contexts .entry)) axis test p)) r (now (room .exit)) ⌝ }
+    requires { ⌜ Ready (now sig) n × (axis ≤ 10) × (within n (now contexts) ≡ true) ⌝ }
+    ensures { λ r. ⌜ Leaves (roomFor (now (room .entry)) (answerOf axis n (entriesOf width (now (sig .entry)) .fa) (entriesOf width (now (sig .entry)) .name) test p (now (contexts .entry)))) r (now (room .exit)) ⌝ }
 {
     let mut marks = [0u8; 4097];
     mark_each(sig, n, contexts, axis, test, p, &mut marks);

@@ -1,3 +1,7 @@
+use mathlib.Core.Path.{_≡_, refl, sym, ap, _∙_}
+use Prim.Native.Nat.{ℕ, _+_, _*_, _-_, _≤_, _<_}
+use lib.ListN.{length, getD, drop, take}
+use Rattle.axes.proofs.Calls.{part-of, part-inside, part-none}
 use native.Mathlib.Omega.{arith}
 use borrow.Author.Needs.{needs}
 use Rattle.axes.proofs.block.Statement.{statement}
@@ -32,15 +36,15 @@ part-result-end c = search needs
 
 -- src/lib.rt:146:9
 returns : tie.Need-returns
-returns c = search needs
+returns c = part-none _ _ _ _ (c .before .before .before .block-place .ensures) (c .before .enum-told .given .1)
 
 -- src/lib.rt:148:15
 add-end : tie.Need-add-end
-add-end c = search needs
+add-end c = omega (arith, part-inside _ _ _ _ _ (c .before .before .before .block-place .ensures) (c .before .place .given .1))
 
 -- src/lib.rt:149:5
 mul-result : tie.Need-mul-result
-mul-result c = search needs
+mul-result c = omega (arith, part-inside _ _ _ _ _ (c .before .before .before .block-place .ensures) (c .before .place .given .1))
 
 -- src/lib.rt:149:5
 sub-result-2 : tie.Need-sub-result-2
@@ -52,11 +56,15 @@ part-result-start-2 c = search needs
 
 -- src/lib.rt:149:5
 part-result-end-2 : tie.Need-part-result-end-2
-part-result-end-2 c = search needs
+part-result-end-2 c = omega (arith, part-inside _ _ _ _ _ (c .before .before .before .block-place .ensures) (c .before .place .given .1))
 
 -- src/lib.rt:141:1
 returns-2 : tie.Need-returns-2
-returns-2 c = search needs
+returns-2 c = 
+    let g = c .before .before .place .given in
+    let z : (g .0 .0 + g .0 .1 .0) - g .0 .0 ≡ g .0 .1 .0 = omega arith in
+    ap (λ (x : ℕ). take x (drop (g .0 .0) (c .before .before .before .before .before .before .args .sig .now))) z
+    ∙ part-of _ _ _ _ _ (c .before .before .before .before .block-place .ensures) (g .1)
 
 pub block-spec : {M : Type 1} → statement M
 block-spec =

@@ -1,3 +1,5 @@
+use mathlib.Core.Path.{_≡_, refl, sym, ap, _∙_}
+use Rattle.axes.proofs.Calls.{ready-of, after-accepted, after-refused}
 use native.Mathlib.Omega.{arith}
 use borrow.Author.Needs.{needs}
 use Rattle.axes.proofs.block_place.Statement.{statement}
@@ -17,7 +19,7 @@ enum-told c = search needs
 
 -- src/lib.rt:135:30
 place-within-requires : tie.Need-place-within-requires
-place-within-requires c κs = search needs
+place-within-requires c κs = ready-of _ _ (c .before .before .check-whole .ensures) (c .enum-told .given .1)
 
 -- src/lib.rt:136:26
 enum-known-verdict : tie.Need-enum-known-verdict
@@ -25,11 +27,11 @@ enum-known-verdict c = search needs
 
 -- src/lib.rt:129:1
 returns : tie.Need-returns
-returns c = search needs
+returns c = c .place-within .ensures ∙ sym (after-accepted _ _ _ _ (c .before .before .before .check-whole .ensures) (c .before .enum-told .given .1))
 
 -- src/lib.rt:129:1
 returns-2 : tie.Need-returns-2
-returns-2 c = search needs
+returns-2 c = sym (after-refused _ _ _ _ _ (c .before .before .before .check-whole .ensures) (c .before .verdict .given .1))
 
 pub block-place-spec : {M : Type 1} → statement M
 block-place-spec =

@@ -1,3 +1,9 @@
+use mathlib.Core.Path.{_≡_, refl, sym, ap, _∙_}
+use Prim.Native.Nat.{ℕ, _+_, _*_, _-_, _≤_, _<_}
+use lib.ListN.{length, getD, drop, take}
+use Rattle.axes.proofs.Calls.{place-yes, place-no}
+use Rattle.axes.proofs.Cases.{rank-inverse}
+use Rattle.axes.specs.Block.{Placed}
 use native.Mathlib.Omega.{arith}
 use borrow.Author.Needs.{needs}
 use Rattle.axes.proofs.place_within.Statement.{statement}
@@ -10,7 +16,7 @@ use Rattle.axes.proofs.refusal.Reads as refusal-reads
 
 -- src/lib.rt:119:13
 cast-n : tie.Need-cast-n
-cast-n c = search needs
+cast-n c = omega (arith, c .before .pre .small)
 
 -- src/lib.rt:120:8
 is-rank-requires : tie.Need-is-rank-requires
@@ -26,7 +32,8 @@ cast-past c = search needs
 
 -- src/lib.rt:123:42
 sub-t10 : tie.Need-sub-t10
-sub-t10 c = search needs
+sub-t10 c = 
+    let k = rank-inverse _ _ (sym (c .before .before .is-rank .ensures) ∙ c .before .if1 .taken) in omega (arith, k .low)
 
 -- src/lib.rt:123:37
 mul-t11 : tie.Need-mul-t11
@@ -34,7 +41,9 @@ mul-t11 c = search needs
 
 -- src/lib.rt:123:59
 sub-t12 : tie.Need-sub-t12
-sub-t12 c = search needs
+sub-t12 c = 
+    let k = rank-inverse _ _ (sym (c .before .before .is-rank .ensures) ∙ c .before .if1 .taken) in
+    omega (arith, c .before .before .before .before .pre .facts .each (c .before .before .before .before .args .i) (k .low) (k .high) .ff-low)
 
 -- src/lib.rt:123:54
 mul-t13 : tie.Need-mul-t13
@@ -42,7 +51,9 @@ mul-t13 c = search needs
 
 -- src/lib.rt:123:9
 returns : tie.Need-returns
-returns c = search needs
+returns c = 
+    ap (λ (x : ℕ). record { number = 0; first = 4 * (c .before .before .before .before .args .i - 1); count = 4 * (x - c .before .before .before .before .args .i); entry = 0 }) (c .first-past .ensures)
+    ∙ sym (place-yes _ _ (sym (c .before .before .is-rank .ensures) ∙ c .before .if1 .taken))
 
 -- src/lib.rt:125:26
 refusal-requires : tie.Need-refusal-requires
@@ -50,7 +61,9 @@ refusal-requires c κs = search needs
 
 -- src/lib.rt:115:1
 returns-2 : tie.Need-returns-2
-returns-2 c = search needs
+returns-2 c = 
+    let r = c .refusal .ensures in
+    (λ i. record { number = r .0 i; first = 0; count = 0; entry = r .1 i }) ∙ sym (place-no _ _ (sym (c .before .before .is-rank .ensures) ∙ c .before .if1 .left))
 
 pub place-within-spec : {M : Type 1} → statement M
 place-within-spec =
