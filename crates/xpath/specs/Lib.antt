@@ -2,9 +2,12 @@
 -- Definitions
 pub mod Select
 pub mod Axes
+pub mod OnNodes
 -- Laws
 pub mod SelectLaws
 pub mod Ancestors
 pub mod Levels
 pub mod Rising
 pub mod Kept
+pub mod NodeLists
+pub mod Says
