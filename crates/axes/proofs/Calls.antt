@@ -24,7 +24,7 @@ use Rattle.turns.specs.Turn.{Halt}
 use Rattle.checking.specs.Kinds.{most}
 use Rattle.checking.specs.Rule.{fresh}
 use Rattle.checking.specs.Turn.{turnOf}
-use Rattle.checking.specs.Stops.{Told, verdictTold, haltTold, answered}
+use Rattle.checking.specs.Stops.{Told, verdictTold, haltTold, worked, refusedAs, answered}
 use Rattle.checking.specs.Whole.{wholeOf, WholePromise}
 use Rattle.checked.specs.Yields.{entries}
 use Rattle.checked.specs.Wholly.{accepted-tree}
@@ -32,7 +32,7 @@ use Rattle.xpath.specs.Select.{upTo, rises, within}
 use Rattle.xpath.specs.SelectLaws.{front, up-same}
 use Rattle.xpath.specs.Axes.{levelOf}
 use Rattle.axes.specs.Checked.{afterCheck, isRank, Ready}
-use Rattle.axes.specs.Level.{Leveled, levelRefused, levelWithin}
+use Rattle.axes.specs.Level.{Leveled, levelWorked, levelRefused, levelWithin}
 use Rattle.axes.specs.Block.{Placed, placeTold, placeRefused, blockPlace, placeWithin, placeAnswer, PlacePromise, partAt}
 use Rattle.axes.specs.declared.PlaceAnswer.{PlaceAnswer}
 use Rattle.axes.proofs.Cases.{Ranked, rank-inverse}
@@ -67,7 +67,7 @@ module _ {A : Type 0} (s : List ℕ) (refuse : ℕ → ℕ → A) (a : A) where
 
 module _ (s : List ℕ) (i : ℕ) where
   pub level-yes : isRank (entries s) i ≡ true
-      → levelWithin s i ≡ record { number = 0; level = levelOf (entries s) (entriesOf width s .fa) i; entry = 0 }
+      → levelWithin s i ≡ levelWorked (levelOf (entries s) (entriesOf width s .fa) i)
   unfolding levelWithin
   level-yes h = simp h
 
@@ -137,7 +137,7 @@ leaves-as x y r after q h = rw q h
 
 pub refused-leaves : (room : List ℕ) (r : Refusal) (number : ℕ) → r .number ≡ number → r .entry .0 ≡ 0
     → Leaves (refusedLeft room number 0) (Written.Refused r) room
-refused-leaves room r number p q = record { said = λ i. record { number = p i; length = 0; entry = q i }; left = refl }
+refused-leaves room r number p q = record { said = λ i. refusedAs (p i) (q i); left = refl }
 
 -- no rank has a mark
 pub marks-none : (n : ℕ) → n ≤ 4096 → Marks n (λ j. false) (replicate 4097 0)
@@ -163,7 +163,7 @@ module _ (n : ℕ) (P : ℕ → Bool) (m room : List ℕ) (h : Marks n P m) (cou
   fits-leaves l after e =
       let c : count ≡ length (upTo n P) = q ∙ ap length same in
       leaves-as _ _ _ _ (room-enough room (upTo n P) (omega arith)) (record {
-        said = λ i. record { number = 0; length = c i; entry = 0 };
+        said = ap worked c;
         left = e ∙ ap (λ (x : List ℕ). front x room) same;
       })
 
@@ -175,6 +175,9 @@ accepted-or Halt.answer = inr refl
 accepted-or Halt.end = inl refl
 accepted-or Halt.budget = inr refl
 accepted-or (Halt.refusal number entry) = inr refl
+
+pub accepted-or-not : (s : List ℕ) → WholePromise Kind.Data s Verdict.Accepted ⊎ (eqb (wholeOf Kind.Data s .reason) 1 ≡ false)
+accepted-or-not s = accepted-or (turnOf Kind.Data s (2 * most Kind.Data + 1) fresh .halt)
 
 module _ (s : List ℕ) (i : ℕ) where
   -- the block ends within the numbers
@@ -193,7 +196,7 @@ module _ (s : List ℕ) (i : ℕ) where
         rw (after-accepted s placeRefused (placeWithin s i) Verdict.Accepted p refl)
         (place-ends (isRank (entries s) i) refl (ready-of s Verdict.Accepted p refl)))
       (λ (n : eqb (wholeOf Kind.Data s .reason) 1 ≡ false). simp n (omega arith))
-      (accepted-or (turnOf Kind.Data s (2 * most Kind.Data + 1) fresh .halt))
+      (accepted-or-not s)
 
   pub part-of : (r : PlaceAnswer) (first count : ℕ) → PlacePromise s i r → r ≡ PlaceAnswer.Numbers first count
       → take count (drop first s) ≡ partAt s (placeAnswer s i)

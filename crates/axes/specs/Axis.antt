@@ -14,7 +14,7 @@ use Rattle.turns.specs.Pick.{pick}
 use Rattle.trees.specs.Signature.{entriesOf, width}
 use Rattle.checked.specs.Yields.{entries}
 use Rattle.checking.specs.declared.Written.{Written}
-use Rattle.checking.specs.Stops.{Answered, answered}
+use Rattle.checking.specs.Stops.{Answered, worked, refusedAs, answered}
 use Rattle.xpath.specs.Select.{rises, within}
 use Rattle.xpath.specs.SelectLaws.{front}
 use Rattle.xpath.specs.Axes.{answerOf}
@@ -35,11 +35,11 @@ pub record Left : Type 0 where
 
 -- "A refused single call returns its number and 0 for every other number, and writes nothing"
 abbrev pub refusedLeft : List ℕ → ℕ → ℕ → Left
-refusedLeft room number entry = record { told = record { number = number; length = 0; entry = entry }; room = room }
+refusedLeft room number entry = record { told = refusedAs number entry; room = room }
 
 -- "Success writes the result at the front of the room and nothing beyond it."
 abbrev pub writtenLeft : List ℕ → List ℕ → Left
-writtenLeft room answer = record { told = record { number = 0; length = length answer; entry = 0 }; room = front answer room }
+writtenLeft room answer = record { told = worked (length answer); room = front answer room }
 
 -- "10 is given exactly if the result is longer than the room"
 unfoldable pub roomFor : List ℕ → List ℕ → Left

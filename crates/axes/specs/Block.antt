@@ -15,23 +15,29 @@ use Rattle.checked.specs.Yields.{entries}
 use Rattle.axes.specs.declared.PlaceAnswer.{PlaceAnswer}
 use Rattle.axes.specs.Checked.{afterCheck, isRank}
 
--- the refusal's number (0: it worked), the place of the first number from 0, how many numbers, and the entry that the refusal names
+-- whether it refused (0: it worked), the refusal's number, the place of the first number from 0, how many numbers, and the entry that the refusal names
 pub record Placed : Type 0 where
+  pub refused : ℕ
   pub number : ℕ
   pub first : ℕ
   pub count : ℕ
   pub entry : ℕ
 
-abbrev pub placeTold : PlaceAnswer → Placed
-placeTold (PlaceAnswer.Numbers first count) = record { number = 0; first = first; count = count; entry = 0 }
-placeTold (PlaceAnswer.Refused r) = record { number = r .number; first = 0; count = 0; entry = r .entry .0 }
+-- a call that worked, and a call that refused
+abbrev pub placeWorked : ℕ → ℕ → Placed
+placeWorked first count = record { refused = 0; number = 0; first = first; count = count; entry = 0 }
 
 abbrev pub placeRefused : ℕ → ℕ → Placed
-placeRefused number entry = record { number = number; first = 0; count = 0; entry = entry }
+placeRefused number entry = record { refused = 1; number = number; first = 0; count = 0; entry = entry }
+
+-- what a call for a block's place answers
+abbrev pub placeTold : PlaceAnswer → Placed
+placeTold (PlaceAnswer.Numbers first count) = placeWorked first count
+placeTold (PlaceAnswer.Refused r) = placeRefused (r .number) (r .entry .0)
 
 -- "entries i to ff−1"
 abbrev pub blockPlace : List ℕ → ℕ → Placed
-blockPlace s i = record { number = 0; first = width * (i - 1); count = width * (entriesOf width s .ff i - i); entry = 0 }
+blockPlace s i = placeWorked (width * (i - 1)) (width * (entriesOf width s .ff i - i))
 
 -- and 8 for "an entry rank of 0 or over n"
 unfoldable pub placeWithin : List ℕ → ℕ → Placed

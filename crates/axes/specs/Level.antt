@@ -13,25 +13,29 @@ use Rattle.xpath.specs.Axes.{levelOf}
 use Rattle.axes.specs.declared.LevelAnswer.{LevelAnswer}
 use Rattle.axes.specs.Checked.{afterCheck, isRank}
 
--- the refusal's number (0: it worked), the level, and the entry that the refusal names
+-- whether it refused (0: it worked), the refusal's number, the level, and the entry that the refusal names
 pub record Leveled : Type 0 where
+  pub refused : ℕ
   pub number : ℕ
   pub level : ℕ
   pub entry : ℕ
 
-abbrev pub levelTold : LevelAnswer → Leveled
-levelTold (LevelAnswer.Level l) = record { number = 0; level = l; entry = 0 }
-levelTold (LevelAnswer.Refused r) = record { number = r .number; level = 0; entry = r .entry .0 }
+-- a call that worked, and a call that refused
+abbrev pub levelWorked : ℕ → Leveled
+levelWorked l = record { refused = 0; number = 0; level = l; entry = 0 }
 
 abbrev pub levelRefused : ℕ → ℕ → Leveled
-levelRefused number entry = record { number = number; level = 0; entry = entry }
+levelRefused number entry = record { refused = 1; number = number; level = 0; entry = entry }
+
+-- what a level call answers
+abbrev pub levelTold : LevelAnswer → Leveled
+levelTold (LevelAnswer.Level l) = levelWorked l
+levelTold (LevelAnswer.Refused r) = levelRefused (r .number) (r .entry .0)
 
 -- "The level of an entry is the number of its ancestors.", and 8 for "an entry rank of 0 or over n"
 unfoldable pub levelWithin : List ℕ → ℕ → Leveled
 levelWithin s i =
-    pick (isRank (entries s) i)
-    (record { number = 0; level = levelOf (entries s) (entriesOf width s .fa) i; entry = 0 })
-    (levelRefused 8 0)
+    pick (isRank (entries s) i) (levelWorked (levelOf (entries s) (entriesOf width s .fa) i)) (levelRefused 8 0)
 
 -- the whole call
 abbrev pub levelAnswer : List ℕ → ℕ → Leveled

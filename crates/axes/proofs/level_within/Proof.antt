@@ -3,7 +3,7 @@ use Prim.Native.Nat.{ℕ, _+_, _*_, _-_, _≤_, _<_}
 use lib.ListN.{length, getD, drop, take}
 use Rattle.axes.proofs.Calls.{level-yes, level-no}
 use Rattle.axes.proofs.Cases.{rank-inverse}
-use Rattle.axes.specs.Level.{Leveled}
+use Rattle.axes.specs.Level.{levelWorked, levelRefused}
 use Rattle.axes.specs.Checked.{isRank}
 use native.Mathlib.Omega.{arith}
 use borrow.Author.Needs.{needs}
@@ -32,7 +32,7 @@ climb-requires c κs =
 -- src/lib.rt:97:9
 returns : tie.Need-returns
 returns c = 
-    ap (λ (l : ℕ). record { number = 0; level = l; entry = 0 }) (c .climb .ensures) ∙ sym (level-yes _ _ (sym (c .before .before .is-rank .ensures) ∙ c .before .if1 .taken))
+    ap levelWorked (c .climb .ensures) ∙ sym (level-yes _ _ (sym (c .before .before .is-rank .ensures) ∙ c .before .if1 .taken))
 
 -- src/lib.rt:99:26
 refusal-requires : tie.Need-refusal-requires
@@ -42,7 +42,7 @@ refusal-requires c κs = search needs
 returns-2 : tie.Need-returns-2
 returns-2 c = 
     let r = c .refusal .ensures in
-    (λ i. record { number = r .0 i; level = 0; entry = r .1 i }) ∙ sym (level-no _ _ (sym (c .before .before .is-rank .ensures) ∙ c .before .if1 .left))
+    (λ i. levelRefused (r .0 i) (r .1 i)) ∙ sym (level-no _ _ (sym (c .before .before .is-rank .ensures) ∙ c .before .if1 .left))
 
 pub level-within-spec : {M : Type 1} → statement M
 level-within-spec =

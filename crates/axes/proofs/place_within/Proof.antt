@@ -3,7 +3,7 @@ use Prim.Native.Nat.{ℕ, _+_, _*_, _-_, _≤_, _<_}
 use lib.ListN.{length, getD, drop, take}
 use Rattle.axes.proofs.Calls.{place-yes, place-no}
 use Rattle.axes.proofs.Cases.{rank-inverse}
-use Rattle.axes.specs.Block.{Placed}
+use Rattle.axes.specs.Block.{placeWorked, placeRefused}
 use native.Mathlib.Omega.{arith}
 use borrow.Author.Needs.{needs}
 use Rattle.axes.proofs.place_within.Statement.{statement}
@@ -52,7 +52,7 @@ mul-t13 c = search needs
 -- src/lib.rt:123:9
 returns : tie.Need-returns
 returns c = 
-    ap (λ (x : ℕ). record { number = 0; first = 4 * (c .before .before .before .before .args .i - 1); count = 4 * (x - c .before .before .before .before .args .i); entry = 0 }) (c .first-past .ensures)
+    ap (λ (x : ℕ). placeWorked (4 * (c .before .before .before .before .args .i - 1)) (4 * (x - c .before .before .before .before .args .i))) (c .first-past .ensures)
     ∙ sym (place-yes _ _ (sym (c .before .before .is-rank .ensures) ∙ c .before .if1 .taken))
 
 -- src/lib.rt:125:26
@@ -63,7 +63,7 @@ refusal-requires c κs = search needs
 returns-2 : tie.Need-returns-2
 returns-2 c = 
     let r = c .refusal .ensures in
-    (λ i. record { number = r .0 i; first = 0; count = 0; entry = r .1 i }) ∙ sym (place-no _ _ (sym (c .before .before .is-rank .ensures) ∙ c .before .if1 .left))
+    (λ i. placeRefused (r .0 i) (r .1 i)) ∙ sym (place-no _ _ (sym (c .before .before .is-rank .ensures) ∙ c .before .if1 .left))
 
 pub place-within-spec : {M : Type 1} → statement M
 place-within-spec =
