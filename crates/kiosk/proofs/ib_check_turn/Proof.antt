@@ -1,0 +1,54 @@
+use Rattle.kiosk.proofs.Laws.{check-left}
+use native.Mathlib.Omega.{arith}
+use borrow.Author.Needs.{needs}
+use Rattle.kiosk.proofs.ib_check_turn.Statement.{statement}
+use Rattle.kiosk.proofs.ib_check_turn.Tie as tie
+use Rattle.kiosk.proofs.ib_check_turn.Reads as reads
+use Rattle.kiosk.proofs.ib_check_turn.Lts as lts
+use Rattle.checking.proofs.CheckState.turn.Reads as turn-reads
+use Rattle.kiosk.proofs.kind_of.Reads as kind-of-reads
+use Rattle.kiosk.proofs.tell_stop.Reads as tell-stop-reads
+
+-- src/lib.rt:52:23
+element-copy-out-t15 : tie.Need-element-copy-out-t15
+element-copy-out-t15 c = search needs
+
+-- src/lib.rt:53:22
+element-copy-out-t19 : tie.Need-element-copy-out-t19
+element-copy-out-t19 c = search needs
+
+-- src/lib.rt:54:26
+element-copy-out-t23 : tie.Need-element-copy-out-t23
+element-copy-out-t23 c = search needs
+
+-- src/lib.rt:56:29
+kind-of-requires : tie.Need-kind-of-requires
+kind-of-requires c κs = search needs
+
+-- src/lib.rt:56:9
+turn-requires : tie.Need-turn-requires
+turn-requires c κs = search needs
+
+-- src/lib.rt:63:5
+tell-stop-requires : tie.Need-tell-stop-requires
+tell-stop-requires c κs = search needs
+
+-- src/lib.rt:44:1
+returns : tie.Need-returns
+returns c =
+    let turn = c .before .before .before .before .turn in
+    let kind = c .before .before .before .before .before .kind-of in
+    let a = c .before .before .before .before .before .before .before .before .before .before .args in
+    check-left (a .kind) _ _ (a .state .now) _ _ _ _ (kind .ensures) (turn .ensures) (c .tell-stop .ensures)
+
+pub ib-check-turn-spec : {M : Type 1} → statement M
+ib-check-turn-spec =
+    tie.close
+    (tie.spec
+    element-copy-out-t15
+    element-copy-out-t19
+    element-copy-out-t23
+    kind-of-requires
+    turn-requires
+    tell-stop-requires
+    returns)

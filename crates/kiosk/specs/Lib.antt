@@ -1,0 +1,3 @@
+-- The C interface: how its bare numbers stand for kinds, stop reasons and states, and what each function promises.
+pub mod Numbers
+pub mod Check
