@@ -1,0 +1,4 @@
+pub mod Scanning
+pub mod Rooms
+pub mod Faults
+pub mod Filling

@@ -1,0 +1,5 @@
+-- Records: marked records, read and written; their promises.
+pub mod Bytes
+pub mod Scans
+pub mod Room
+pub mod Records

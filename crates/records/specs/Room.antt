@@ -1,0 +1,35 @@
+-- What a single call that writes into lent room answers, and what it leaves there.
+--   Left                  the answer in numbers, and what the room holds at exit
+--   leftBy …              from the refusal before room (0: none) with its entry, the result, and the room at entry
+--   RoomPromise …         the answer and the room at exit are these
+use Prim.Native.Nat.{ℕ}
+use mathlib.Core.Path.{_≡_}
+use mathlib.Core.List.{List, _++_}
+use lib.ListN.{length, drop}
+use lib.Dec.{leb, eqb}
+use Rattle.turns.specs.Pick.{pick}
+use Rattle.checking.specs.Stops.{Answered, answered}
+use Rattle.checking.specs.declared.Written.{Written}
+
+pub record Left : Type 0 where
+  pub answer : Answered
+  pub room : List ℕ
+
+-- "Success writes the result at the front of the room and nothing beyond it."
+abbrev pub frontWith : List ℕ → List ℕ → List ℕ
+frontWith result room = result ++ drop (length result) room
+
+-- "A refused single call returns its number and 0 for every other number, and writes nothing"; "10 is given exactly if the result is longer
+-- than the room", and after all else
+unfoldable pub leftBy : ℕ → ℕ → List ℕ → List ℕ → Left
+leftBy number entry result room =
+    pick (eqb number 0)
+    (pick (leb (length result) (length room))
+    (record { answer = record { number = 0; length = length result; entry = 0 }; room = frontWith result room })
+    (record { answer = record { number = 10; length = 0; entry = 0 }; room = room }))
+    (record { answer = record { number = number; length = 0; entry = entry }; room = room })
+
+-- the promise of a call that writes into lent room
+pub record RoomPromise (number entry : ℕ) (result room : List ℕ) (w : Written) (after : List ℕ) : Type 0 where
+  pub told : answered w ≡ leftBy number entry result room .answer
+  pub left : after ≡ leftBy number entry result room .room

@@ -1,0 +1,275 @@
+// Layer 3, records: signature records and tag lists, read into and written from signatures, for data trees and twigs.
+ghost use mathlib.Core.Path.{_≡_};
+ghost use mathlib.Core.Bool.{Bool};
+ghost use mathlib.Core.List.{List, [], _∷_};
+ghost use Prim.Native.Nat.{ℕ, _+_, _*_, _-_, _/_, _<_, _≤_};
+ghost use lib.ListN.{length, getD, set};
+ghost use lib.Seq.{sets};
+ghost use Rattle.trees.specs.Signature.{cell, entriesOf, width};
+ghost use Rattle.checking.specs.Kinds.{anyName, most};
+ghost use Rattle.checking.specs.Stops.{answered};
+ghost use Rattle.records.specs.Bytes.{numberAt, low, high, marked};
+ghost use Rattle.records.specs.Scans.{begin, haltNumber};
+ghost use Rattle.records.specs.Room.{frontWith, RoomPromise};
+ghost use Rattle.records.specs.Records.{recordFault, recordNext, recordsEnd, recordsScan, numbersFrom, entryBytes, bytesFrom, namelessFrom, writeFault, ReadPromise, WritePromise};
+use checking::Kind;
+use checking::PreRank;
+use checking::Refusal;
+use checking::Written;
+
+// Where a reader stands: the place of the next record, the elements that are open, and the elements or entries read so far.
+pub struct Scan {
+    pub at: usize,
+    pub depth: u16,
+    pub count: u16,
+}
+
+// What a reader's judging pass came to: the refusal's number, or 0, and where it stands, at a refusal before the refused record.
+struct Judged {
+    fault: u16,
+    state: Scan,
+}
+
+// The byte at a place, 0 outside.
+fn byte_at(bytes: &[u8], at: usize) -> u8
+    ensures { λ r. ⌜ r ≡ getD (now (bytes .entry)) at 0 ⌝ }
+{
+    if at < bytes.len() {
+        return bytes[at];
+    }
+    0
+}
+
+// The number at a place, low byte first.
+fn number_at(bytes: &[u8], at: usize) -> u16
+    requires { ⌜ at ≤ length (now bytes) + 65536 ⌝ }
+    ensures { λ r. ⌜ r ≡ numberAt (now (bytes .entry)) at ⌝ }
+{
+    let low = byte_at(bytes, at) as u16;
+    let high = byte_at(bytes, at + 1) as u16;
+    low + 256 * high
+}
+
+// Whether a place has the mark of these two bytes.
+fn is_marked(bytes: &[u8], at: usize, first: u8, second: u8) -> bool
+    requires { ⌜ at ≤ length (now bytes) + 65536 ⌝ }
+    ensures { λ r. ⌜ «r» ≡ marked (now (bytes .entry)) at first second ⌝ }
+{
+    if byte_at(bytes, at) != first {
+        return false;
+    }
+    if byte_at(bytes, at + 1) == second { true } else { false }
+}
+
+// A refusal that names no entry.
+fn refused(number: u16) -> Written
+    ensures { λ r. ⌜ r ≡ Written.Refused (record { number = number; entry = record { 0 = 0 } }) ⌝ }
+{
+    Written::Refused(Refusal {
+        number,
+        entry: PreRank(0),
+    })
+}
+
+// The refusal of the signature record at a place, or 0.
+fn record_fault(bytes: &[u8], st: Scan) -> u16
+    requires { ⌜ st .at ≤ length (now bytes) ⌝ }
+    ensures { λ r. ⌜ r ≡ recordFault (now (bytes .entry)) st ⌝ }
+{
+    let at = st.at;
+    let left = bytes.len() - at;
+    if left < 2 {
+        return checking::CUT;
+    }
+    if is_marked(bytes, at, 83, 69) {
+        if left < 10 {
+            return checking::CUT;
+        }
+        if number_at(bytes, at + 2) == 0 {
+            return checking::NAMELESS;
+        }
+        if 4096 <= st.count {
+            return checking::TOO_MANY;
+        }
+        return 0;
+    }
+    checking::UNKNOWN_MARK
+}
+
+// Where the record after this one begins.
+fn record_next(st: Scan) -> Scan
+    requires { ⌜ (st .at < 9223372036854775808) × (st .count < 4096) ⌝ }
+    ensures { λ r. ⌜ r ≡ recordNext st ⌝ }
+{
+    let at = st.at + 10;
+    let depth = st.depth;
+    let count = st.count + 1;
+    Scan { at, depth, count }
+}
+
+// Whether all records are read.
+fn is_records_end(bytes: &[u8], st: Scan) -> bool
+    ensures { λ r. ⌜ «r» ≡ recordsEnd (now (bytes .entry)) st ⌝ }
+{
+    if st.at != bytes.len() {
+        return false;
+    }
+    if 0 < st.count { true } else { false }
+}
+
+// Judges the signature records from the front.
+fn scan_records(bytes: &[u8]) -> Judged
+    ensures { λ r. ⌜ (r .state ≡ recordsScan (now (bytes .entry)) .state) × (r .fault ≡ haltNumber (recordsScan (now (bytes .entry)) .halt)) × (r .state .count ≤ 4096) ⌝ }
+{
+    let mut st = Scan {
+        at: 0,
+        depth: 0,
+        count: 0,
+    };
+    loop {
+        if is_records_end(bytes, st) {
+            return Judged {
+                fault: 0,
+                state: st,
+            };
+        }
+        let fault = record_fault(bytes, st);
+        if fault != 0 {
+            return Judged {
+                fault,
+                state: st,
+            };
+        }
+        st = record_next(st);
+    }
+}
+
+// Writes one entry at a place of the room.
+fn put_entry(room: &mut [u16], at: usize, name: u16, post: u16, ff: u16, fa: u16)
+    requires { ⌜ at + 4 ≤ length (now room) ⌝ }
+    ensures { λ _. ⌜ now (room .exit) ≡ sets (now (room .entry)) at (name ∷ post ∷ ff ∷ fa ∷ []) ⌝ }
+{
+    room[at] = name;
+    room[at + 1] = post;
+    room[at + 2] = ff;
+    room[at + 3] = fa;
+}
+
+// Writes the numbers of the first size records to the front of the room.
+fn fill_numbers(bytes: &[u8], size: usize, room: &mut [u16])
+    requires { ⌜ (size ≤ 4096) × (width * size ≤ length (now room)) ⌝ }
+    ensures { λ _. ⌜ now (room .exit) ≡ frontWith (numbersFrom (now (bytes .entry)) 0 size) (now (room .entry)) ⌝ }
+{
+    let mut i: usize = 0;
+    while i < size {
+        let at = 10 * i;
+        let name = number_at(bytes, at + 2);
+        let post = number_at(bytes, at + 4);
+        let ff = number_at(bytes, at + 6);
+        let fa = number_at(bytes, at + 8);
+        put_entry(room, 4 * i, name, post, ff, fa);
+        i += 1;
+    }
+}
+
+// Reads signature records of a data tree into the room.
+pub fn read_records(bytes: &[u8], room: &mut [u16]) -> Written
+    ensures { λ r. ⌜ ReadPromise (now (bytes .entry)) (now (room .entry)) r (now (room .exit)) ⌝ }
+{
+    let judged = scan_records(bytes);
+    let fault = judged.fault;
+    if fault != 0 {
+        return refused(fault);
+    }
+    let size = judged.state.count as usize;
+    if room.len() < 4 * size {
+        return refused(checking::NO_ROOM);
+    }
+    fill_numbers(bytes, size, room);
+    Written::Length(4 * size)
+}
+
+// Writes a number as two bytes at a place of the room, low byte first.
+fn put_number(room: &mut [u8], at: usize, v: u16)
+    requires { ⌜ at + 2 ≤ length (now room) ⌝ }
+    ensures { λ _. ⌜ now (room .exit) ≡ sets (now (room .entry)) at (low v ∷ high v ∷ []) ⌝ }
+{
+    room[at] = (v % 256) as u8;
+    room[at + 1] = (v / 256) as u8;
+}
+
+// Writes one signature record at a place of the room.
+fn put_record(room: &mut [u8], at: usize, name: u16, post: u16, ff: u16, fa: u16)
+    requires { ⌜ at + 10 ≤ length (now room) ⌝ }
+    ensures { λ _. ⌜ now (room .exit) ≡ sets (now (room .entry)) at (entryBytes name post ff fa []) ⌝ }
+{
+    room[at] = 83;
+    room[at + 1] = 69;
+    put_number(room, at + 2, name);
+    put_number(room, at + 4, post);
+    put_number(room, at + 6, ff);
+    put_number(room, at + 8, fa);
+}
+
+// Whether one of the first size entries has name 0.
+fn has_nameless(sig: &[u16], size: usize) -> bool
+    requires { ⌜ width * size ≤ length (now sig) ⌝ }
+    ensures { λ r. ⌜ «r» ≡ namelessFrom (now (sig .entry)) 0 size ⌝ }
+{
+    let mut i: usize = 0;
+    while i < size {
+        if sig[4 * i] == 0 {
+            return true;
+        }
+        i += 1;
+    }
+    false
+}
+
+// Writes the records of the first size entries to the front of the room.
+fn fill_records(sig: &[u16], size: usize, room: &mut [u8])
+    requires { ⌜ (width * size ≤ length (now sig)) × (10 * size ≤ length (now room)) ⌝ }
+    ensures { λ _. ⌜ now (room .exit) ≡ frontWith (bytesFrom (now (sig .entry)) 0 size) (now (room .entry)) ⌝ }
+{
+    let mut i: usize = 0;
+    while i < size {
+        let k = 4 * i;
+        let name = sig[k];
+        let post = sig[k + 1];
+        let ff = sig[k + 2];
+        let fa = sig[k + 3];
+        put_record(room, 10 * i, name, post, ff, fa);
+        i += 1;
+    }
+}
+
+// The refusal of a signature whose records are to be written, or 0.
+fn write_fault(sig: &[u16]) -> u16
+    ensures { λ r. ⌜ r ≡ writeFault (now (sig .entry)) ⌝ }
+{
+    let len = sig.len();
+    let fault = checking::length_fault(Kind::Data, len);
+    if fault != 0 {
+        return fault;
+    }
+    if has_nameless(sig, len / 4) {
+        return checking::NAMELESS;
+    }
+    0
+}
+
+// Writes the signature records of a data tree into the room.
+pub fn write_records(sig: &[u16], room: &mut [u8]) -> Written
+    ensures { λ r. ⌜ WritePromise (now (sig .entry)) (now (room .entry)) r (now (room .exit)) ⌝ }
+{
+    let fault = write_fault(sig);
+    if fault != 0 {
+        return refused(fault);
+    }
+    let size = sig.len() / 4;
+    if room.len() / 10 < size {
+        return refused(checking::NO_ROOM);
+    }
+    fill_records(sig, size, room);
+    Written::Length(10 * size)
+}
