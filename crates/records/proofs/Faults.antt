@@ -2,7 +2,7 @@
 --   marked-…          the test of a mark
 --   record-…          the refusals of a record, in their order
 --   record-passed     what a record without refusal is
-use Prim.Native.Nat.{ℕ, zero, suc, _+_, _-_, _*_, _≤_, _<_}
+use Prim.Native.Nat.{ℕ, zero, suc, _+_, _-_, _*_, _/_, _≤_, _<_}
 use mathlib.Core.Path.{_≡_, refl, ap, _∙_, sym}
 use mathlib.Core.Bool.{Bool, true, false, not, _&&_}
 use mathlib.Core.List.{List, [], _∷_}
@@ -14,7 +14,11 @@ use Rattle.turns.specs.Pick.{pick}
 use Rattle.records.specs.declared.Scan.{Scan}
 use Rattle.records.specs.Bytes.{numberAt, marked}
 use Rattle.records.specs.Scans.{firstFault}
-use Rattle.records.specs.Records.{recordFault, recordsEnd}
+use Rattle.records.specs.Records.{recordFault, recordsEnd, writeFault, namelessFrom}
+use Rattle.trees.specs.Signature.{width}
+use Rattle.checking.specs.Kinds.{most}
+use Rattle.checking.specs.Turn.{lengthFault}
+use Rattle.checking.specs.declared.Kind.{Kind}
 
 module _ (b : List ℕ) (p x y : ℕ) where
   pub marked-first : (getD b p 0 ≡ x → ⊥) → marked b p x y ≡ false
@@ -109,3 +113,19 @@ module _ (b : List ℕ) (st : Scan) where
       go false true false false true hk hw hz ho h = absurd (omega arith)
       go false true false false false hk hw hz ho h =
           record { known = hk; whole = ltb-false _ _ hw; named = eqb-false _ _ hz; room = leb-false _ _ ho }
+
+-- ---- a signature to be written
+
+module _ (s : List ℕ) where
+  pub write-length : (lengthFault (most Kind.Data) width (length s) ≡ 0 → ⊥) → writeFault s ≡ lengthFault (most Kind.Data) width (length s)
+  unfolding writeFault
+  write-length h = simp (ne-eqb _ _ h)
+
+  module _ (fine : lengthFault (most Kind.Data) width (length s) ≡ 0) where
+    pub write-nameless : namelessFrom s 0 (length s / 4) ≡ true → writeFault s ≡ 3
+    unfolding writeFault
+    write-nameless h = simp (eq-eqb _ _ fine, h)
+
+    pub write-fine : namelessFrom s 0 (length s / 4) ≡ false → writeFault s ≡ 0
+    unfolding writeFault
+    write-fine h = simp (eq-eqb _ _ fine, h)

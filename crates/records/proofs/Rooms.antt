@@ -108,3 +108,21 @@ sets-four room i a b c d =
     let q : i + 2 ≡ suc (suc i) = omega arith in
     let r : i + 3 ≡ suc (suc (suc i)) = omega arith in
     cc
+
+pub sets-ten : (room : List ℕ) (i a b c d e f g h j k : ℕ)
+    → set (set (set (set (set (set (set (set (set (set room i a) (i + 1) b) (i + 2) c) (i + 3) d) (i + 4) e) (i + 5) f) (i + 6) g) (i + 7) h) (i + 8) j) (i + 9) k
+    ≡ sets room i (a ∷ b ∷ c ∷ d ∷ e ∷ f ∷ g ∷ h ∷ j ∷ k ∷ [])
+sets-ten room i a b c d e f g h j k =
+    ap (λ (r : List ℕ). set (set (set (set (set (set r (i + 4) e) (i + 5) f) (i + 6) g) (i + 7) h) (i + 8) j) (i + 9) k) (sets-four room i a b c d)
+    ∙ upper (sets room i (a ∷ b ∷ c ∷ d ∷ []))
+  where
+    upper : (r : List ℕ) → set (set (set (set (set (set r (i + 4) e) (i + 5) f) (i + 6) g) (i + 7) h) (i + 8) j) (i + 9) k
+        ≡ sets r (suc (suc (suc (suc i)))) (e ∷ f ∷ g ∷ h ∷ j ∷ k ∷ [])
+    upper r =
+        let p : i + 4 ≡ suc (suc (suc (suc i))) = omega arith in
+        let q : i + 5 ≡ suc (suc (suc (suc (suc i)))) = omega arith in
+        let t : i + 6 ≡ suc (suc (suc (suc (suc (suc i))))) = omega arith in
+        let u : i + 7 ≡ suc (suc (suc (suc (suc (suc (suc i)))))) = omega arith in
+        let v : i + 8 ≡ suc (suc (suc (suc (suc (suc (suc (suc i))))))) = omega arith in
+        let w : i + 9 ≡ suc (suc (suc (suc (suc (suc (suc (suc (suc i)))))))) = omega arith in
+        cc

@@ -3,3 +3,4 @@ pub mod Bytes
 pub mod Scans
 pub mod Room
 pub mod Records
+pub mod TagLists

@@ -12,6 +12,8 @@ ghost use Rattle.records.specs.Bytes.{numberAt, low, high, marked};
 ghost use Rattle.records.specs.Scans.{begin, haltNumber};
 ghost use Rattle.records.specs.Room.{frontWith, RoomPromise};
 ghost use Rattle.records.specs.Records.{recordFault, recordNext, recordsEnd, recordsScan, numbersFrom, entryBytes, bytesFrom, namelessFrom, writeFault, ReadPromise, WritePromise};
+ghost use Rattle.trees.specs.Tags.{Tag, WholeTags};
+ghost use Rattle.records.specs.TagLists.{tagBytes, opening, rootClosed, misnested, tagFault, tagNext, treeEnd, treeScan, tagsFrom, numbersIn, TagsPromise, ReadingPromise, TreePromise};
 use checking::Kind;
 use checking::PreRank;
 use checking::Refusal;
@@ -22,6 +24,12 @@ pub struct Scan {
     pub at: usize,
     pub depth: u16,
     pub count: u16,
+}
+
+// What reading one tree from a place on answers: how many numbers it wrote and the place after the close of the root, or the refusal.
+pub enum TreeRead {
+    Tree(usize, usize),
+    Refused(Refusal),
 }
 
 // What a reader's judging pass came to: the refusal's number, or 0, and where it stands, at a refusal before the refused record.
@@ -189,15 +197,6 @@ pub fn read_records(bytes: &[u8], room: &mut [u16]) -> Written
     Written::Length(4 * size)
 }
 
-// Writes a number as two bytes at a place of the room, low byte first.
-fn put_number(room: &mut [u8], at: usize, v: u16)
-    requires { ⌜ at + 2 ≤ length (now room) ⌝ }
-    ensures { λ _. ⌜ now (room .exit) ≡ sets (now (room .entry)) at (low v ∷ high v ∷ []) ⌝ }
-{
-    room[at] = (v % 256) as u8;
-    room[at + 1] = (v / 256) as u8;
-}
-
 // Writes one signature record at a place of the room.
 fn put_record(room: &mut [u8], at: usize, name: u16, post: u16, ff: u16, fa: u16)
     requires { ⌜ at + 10 ≤ length (now room) ⌝ }
@@ -205,10 +204,14 @@ fn put_record(room: &mut [u8], at: usize, name: u16, post: u16, ff: u16, fa: u16
 {
     room[at] = 83;
     room[at + 1] = 69;
-    put_number(room, at + 2, name);
-    put_number(room, at + 4, post);
-    put_number(room, at + 6, ff);
-    put_number(room, at + 8, fa);
+    room[at + 2] = (name % 256) as u8;
+    room[at + 3] = (name / 256) as u8;
+    room[at + 4] = (post % 256) as u8;
+    room[at + 5] = (post / 256) as u8;
+    room[at + 6] = (ff % 256) as u8;
+    room[at + 7] = (ff / 256) as u8;
+    room[at + 8] = (fa % 256) as u8;
+    room[at + 9] = (fa / 256) as u8;
 }
 
 // Whether one of the first size entries has name 0.
@@ -272,4 +275,102 @@ pub fn write_records(sig: &[u16], room: &mut [u8]) -> Written
     }
     fill_records(sig, size, room);
     Written::Length(10 * size)
+}
+
+// The refusal of a whole `OP` mark's record, or 0.
+fn open_fault(bytes: &[u8], any_name: bool, most: u16, st: Scan) -> u16
+    requires { ⌜ (st .at + 2 ≤ length (now bytes)) × (opening (now bytes) (st .at) ≡ true) ⌝ }
+    ensures { λ r. ⌜ r ≡ tagFault «any_name» most (now (bytes .entry)) st ⌝ }
+{
+    let at = st.at;
+    if bytes.len() - at < 4 {
+        return checking::CUT;
+    }
+    if !any_name {
+        if number_at(bytes, at + 2) == 0 {
+            return checking::NAMELESS;
+        }
+    }
+    if is_root_closed(st) {
+        return checking::BAD_NESTING;
+    }
+    if most <= st.count {
+        return checking::TOO_MANY;
+    }
+    0
+}
+
+// Whether the root is closed.
+fn is_root_closed(st: Scan) -> bool
+    ensures { λ r. ⌜ «r» ≡ rootClosed st ⌝ }
+{
+    if st.depth != 0 {
+        return false;
+    }
+    if 0 < st.count { true } else { false }
+}
+
+// The refusal of the tag at a place, or 0.
+fn tag_fault(bytes: &[u8], any_name: bool, most: u16, st: Scan) -> u16
+    ensures { λ r. ⌜ r ≡ tagFault «any_name» most (now (bytes .entry)) st ⌝ }
+{
+    let at = st.at;
+    if bytes.len() <= at {
+        if 0 < st.count {
+            return checking::BAD_NESTING;
+        }
+        return checking::CUT;
+    }
+    if bytes.len() - at < 2 {
+        return checking::CUT;
+    }
+    if is_marked(bytes, at, 79, 80) {
+        return open_fault(bytes, any_name, most, st);
+    }
+    if is_marked(bytes, at, 67, 76) {
+        if st.depth == 0 {
+            return checking::BAD_NESTING;
+        }
+        return 0;
+    }
+    checking::UNKNOWN_MARK
+}
+
+// Where the tag after this one begins, with what it opened or closed.
+fn tag_next(bytes: &[u8], st: Scan) -> Scan
+    requires { ⌜ (st .at ≤ length (now bytes)) × (st .depth ≤ 4096) × (st .count ≤ 4096) × (opening (now bytes) (st .at) ≡ false → 1 ≤ st .depth) ⌝ }
+    ensures { λ r. ⌜ r ≡ tagNext (now (bytes .entry)) st ⌝ }
+{
+    let at = st.at;
+    let depth = st.depth;
+    let count = st.count;
+    if is_marked(bytes, at, 79, 80) {
+        Scan {
+            at: at + 4,
+            depth: depth + 1,
+            count: count + 1,
+        }
+    } else {
+        Scan {
+            at: at + 2,
+            depth: depth - 1,
+            count,
+        }
+    }
+}
+
+// Whether a tree is read: to the end of the bytes where the whole of them is asked for.
+fn is_tree_end(bytes: &[u8], whole: bool, st: Scan) -> bool
+    ensures { λ r. ⌜ «r» ≡ treeEnd «whole» (now (bytes .entry)) st ⌝ }
+{
+    if is_root_closed(st) {
+        if whole {
+            if st.at == bytes.len() {
+                return true;
+            }
+            return false;
+        }
+        return true;
+    }
+    false
 }

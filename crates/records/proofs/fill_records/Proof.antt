@@ -1,3 +1,9 @@
+use mathlib.Core.Path.{_≡_, ap, sym, _∙_}
+use Prim.Native.Nat.{_≤_, _-_, _*_}
+use native.Mathlib.Nat.{sub-zero}
+use Rattle.records.specs.Records.{bytesFrom}
+use Rattle.records.proofs.Filling.{bytes-stored, bytes-none, bytes-length}
+use Rattle.records.proofs.Rooms.{Storing, storing-start, storing-end}
 use native.Mathlib.Omega.{arith}
 use borrow.Author.Needs.{needs}
 use Rattle.records.proofs.fill_records.Statement.{statement}
@@ -7,14 +13,14 @@ use Rattle.records.proofs.fill_records.Lts as lts
 use Rattle.records.proofs.put_record.Reads as put-record-reads
 
 abbrev Inv-loop : tie.InvT-loop
-Inv-loop sig size room₀ i₀ room i = ?
+Inv-loop sig size room₀ i₀ room i = Storing room₀ (bytesFrom sig 0 size) room (10 * i) (bytesFrom sig (4 * i) (size - i)) × (i ≤ size)
 
 abbrev μ-loop : tie.MeasureT-loop
-μ-loop sig size room₀ i₀ room i = ?
+μ-loop sig size room₀ i₀ room i = size - i
 
 -- src/lib.rt:235:5
 loop-holds : tie.Need-loop-holds Inv-loop μ-loop
-loop-holds c = search needs
+loop-holds c = (storing-start _ _ _ (ap (bytesFrom _ 0) (sub-zero _)), omega arith)
 
 -- src/lib.rt:236:17
 mul-k : tie.Need-mul-k Inv-loop μ-loop
@@ -70,7 +76,7 @@ mul-put-record c = search needs
 
 -- src/lib.rt:241:9
 put-record-requires : tie.Need-put-record-requires Inv-loop μ-loop
-put-record-requires c κs = search needs
+put-record-requires c κs = omega (arith, c .before .before .before .before .before .before .loop .inv .0 .long)
 
 -- src/lib.rt:242:9
 add-i : tie.Need-add-i Inv-loop μ-loop
@@ -78,19 +84,20 @@ add-i c = search needs
 
 -- src/lib.rt:235:5
 loop-less : tie.Need-loop-less Inv-loop μ-loop
-loop-less c = search needs
+loop-less c = omega arith
 
 -- src/lib.rt:235:5
 loop-again : tie.Need-loop-again Inv-loop μ-loop
-loop-again c = search needs
+loop-again c =     let l = c .before .before .before .before .before .before .before .before .before .loop in
+    (bytes-stored _ _ _ _ _ _ (l .inv .0) (omega arith) (c .before .before .put-record .ensures), omega arith)
 
 -- src/lib.rt:230:1
 same-length : tie.Need-same-length Inv-loop μ-loop
-same-length c = search needs
+same-length c = c .before .loop .inv .0 .long
 
 -- src/lib.rt:230:1
 returns : tie.Need-returns Inv-loop μ-loop
-returns c = search needs
+returns c = storing-end _ _ _ _ _ (c .before .loop .inv .0) (bytes-none _ _ _ (omega arith)) (omega (arith, bytes-length (c .before .before .before .before .args .sig .now) 0 (c .before .before .before .before .args .size)))
 
 pub fill-records-spec : {M : Type 1} → statement M
 fill-records-spec =
