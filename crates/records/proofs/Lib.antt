@@ -2,3 +2,4 @@ pub mod Scanning
 pub mod Rooms
 pub mod Faults
 pub mod Filling
+pub mod TagFaults

@@ -44,6 +44,10 @@ closing b p = marked b p 67 76
 unfoldable pub rootClosed : Scan → Bool
 rootClosed st = eqb (st .depth) 0 && ltb 0 (st .count)
 
+-- "name 0 in a data tree"
+unfoldable pub namelessAt : Bool → List ℕ → ℕ → Bool
+namelessAt any b p = not any && eqb (numberAt b (p + 2)) 0
+
 -- "close with nothing open, a record after the root closed"
 unfoldable pub misnested : List ℕ → Scan → Bool
 misnested b st = pick (opening b (st .at)) (rootClosed st) (eqb (st .depth) 0)
@@ -54,7 +58,7 @@ tagFault any most b st =
     pick (leb (length b) (st .at) && ltb 0 (st .count)) 12
     (firstFault (ltb (length b) (st .at + 2)) (not (opening b (st .at) || closing b (st .at)))
     (opening b (st .at) && ltb (length b) (st .at + 4))
-    (opening b (st .at) && (not any && eqb (numberAt b (st .at + 2)) 0))
+    (opening b (st .at) && namelessAt any b (st .at))
     (misnested b st) (opening b (st .at) && leb most (st .count)))
 
 -- an element opens, or the innermost one closes

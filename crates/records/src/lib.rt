@@ -1,6 +1,6 @@
 // Layer 3, records: signature records and tag lists, read into and written from signatures, for data trees and twigs.
 ghost use mathlib.Core.Path.{_≡_};
-ghost use mathlib.Core.Bool.{Bool};
+ghost use mathlib.Core.Bool.{Bool, true, false};
 ghost use mathlib.Core.List.{List, [], _∷_};
 ghost use Prim.Native.Nat.{ℕ, _+_, _*_, _-_, _/_, _<_, _≤_};
 ghost use lib.ListN.{length, getD, set};
@@ -13,7 +13,7 @@ ghost use Rattle.records.specs.Scans.{begin, haltNumber};
 ghost use Rattle.records.specs.Room.{frontWith, RoomPromise};
 ghost use Rattle.records.specs.Records.{recordFault, recordNext, recordsEnd, recordsScan, numbersFrom, entryBytes, bytesFrom, namelessFrom, writeFault, ReadPromise, WritePromise};
 ghost use Rattle.trees.specs.Tags.{Tag, WholeTags};
-ghost use Rattle.records.specs.TagLists.{tagBytes, opening, rootClosed, misnested, tagFault, tagNext, treeEnd, treeScan, tagsFrom, numbersIn, TagsPromise, ReadingPromise, TreePromise};
+ghost use Rattle.records.specs.TagLists.{tagBytes, namelessAt, opening, rootClosed, misnested, tagFault, tagNext, treeEnd, treeScan, tagsFrom, numbersIn, TagsPromise, ReadingPromise, TreePromise};
 use checking::Kind;
 use checking::PreRank;
 use checking::Refusal;
@@ -277,7 +277,18 @@ pub fn write_records(sig: &[u16], room: &mut [u8]) -> Written
     Written::Length(10 * size)
 }
 
-// The refusal of a whole `OP` mark's record, or 0.
+// Whether the element that opens at a place has name 0 where that is refused.
+fn is_nameless(bytes: &[u8], any_name: bool, at: usize) -> bool
+    requires { ⌜ at ≤ length (now bytes) ⌝ }
+    ensures { λ r. ⌜ «r» ≡ namelessAt «any_name» (now (bytes .entry)) at ⌝ }
+{
+    if any_name {
+        return false;
+    }
+    if number_at(bytes, at + 2) == 0 { true } else { false }
+}
+
+// The refusal of the record of an `OP` mark, or 0.
 fn open_fault(bytes: &[u8], any_name: bool, most: u16, st: Scan) -> u16
     requires { ⌜ (st .at + 2 ≤ length (now bytes)) × (opening (now bytes) (st .at) ≡ true) ⌝ }
     ensures { λ r. ⌜ r ≡ tagFault «any_name» most (now (bytes .entry)) st ⌝ }
@@ -286,10 +297,8 @@ fn open_fault(bytes: &[u8], any_name: bool, most: u16, st: Scan) -> u16
     if bytes.len() - at < 4 {
         return checking::CUT;
     }
-    if !any_name {
-        if number_at(bytes, at + 2) == 0 {
-            return checking::NAMELESS;
-        }
+    if is_nameless(bytes, any_name, at) {
+        return checking::NAMELESS;
     }
     if is_root_closed(st) {
         return checking::BAD_NESTING;

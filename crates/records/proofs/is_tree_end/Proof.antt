@@ -1,3 +1,5 @@
+use mathlib.Core.Path.{sym}
+use Rattle.records.proofs.TagFaults.{end-last, end-more, end-here, end-open}
 use native.Mathlib.Omega.{arith}
 use borrow.Author.Needs.{needs}
 use Rattle.records.proofs.is_tree_end.Statement.{statement}
@@ -12,19 +14,19 @@ is-root-closed-requires c κs = search needs
 
 -- src/lib.rt:369:17
 returns : tie.Need-returns
-returns c = search needs
+returns c = sym (end-last _ _ _ (cc) (cc) (omega arith))
 
 -- src/lib.rt:371:13
 returns-2 : tie.Need-returns-2
-returns-2 c = search needs
+returns-2 c = sym (end-more _ _ _ (cc) (cc) (omega arith))
 
 -- src/lib.rt:373:9
 returns-3 : tie.Need-returns-3
-returns-3 c = search needs
+returns-3 c = sym (end-here _ _ _ (cc) (cc))
 
 -- src/lib.rt:363:1
 returns-4 : tie.Need-returns-4
-returns-4 c = search needs
+returns-4 c = sym (end-open _ _ _ (cc))
 
 pub is-tree-end-spec : {M : Type 1} → statement M
 is-tree-end-spec =
