@@ -3,3 +3,4 @@ pub mod Rooms
 pub mod Faults
 pub mod Filling
 pub mod TagFaults
+pub mod Build

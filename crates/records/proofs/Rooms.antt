@@ -109,6 +109,17 @@ sets-four room i a b c d =
     let r : i + 3 ≡ suc (suc (suc i)) = omega arith in
     cc
 
+-- four stores, and two, each on what the one before left
+pub stored-four : (r r₁ r₂ r₃ r₄ : List ℕ) (i a b c d : ℕ) → r₁ ≡ set r i a → r₂ ≡ set r₁ (i + 1) b → r₃ ≡ set r₂ (i + 2) c → r₄ ≡ set r₃ (i + 3) d
+    → r₄ ≡ sets r i (a ∷ b ∷ c ∷ d ∷ [])
+stored-four r r₁ r₂ r₃ r₄ i a b c d p q s t = let w = sets-four r i a b c d in cc
+
+pub stored-two : (r r₁ r₂ : List ℕ) (i k a b : ℕ) → i ≡ k → r₁ ≡ set r (i + 1) a → r₂ ≡ set r₁ (i + 2) b → r₂ ≡ sets r (k + 1) (a ∷ b ∷ [])
+stored-two r r₁ r₂ i k a b e p q =
+    let u : i + 1 ≡ k + 1 = omega arith in
+    let v : i + 2 ≡ suc (k + 1) = omega arith in
+    cc
+
 pub sets-ten : (room : List ℕ) (i a b c d e f g h j k : ℕ)
     → set (set (set (set (set (set (set (set (set (set room i a) (i + 1) b) (i + 2) c) (i + 3) d) (i + 4) e) (i + 5) f) (i + 6) g) (i + 7) h) (i + 8) j) (i + 9) k
     ≡ sets room i (a ∷ b ∷ c ∷ d ∷ e ∷ f ∷ g ∷ h ∷ j ∷ k ∷ [])

@@ -191,3 +191,43 @@ module _ (any : Bool) (most : ℕ) (b : List ℕ) (st : Scan) where
       go false false false true w z r false f hm ho hc hw hz hr hd hf h =
           let k = eqb-false (st .depth) 0 hd in
           inr (record { opens-not = ho; closes-here = hc; mark = ltb-false _ _ hm; some-open = omega (arith, k); is = next-close ho })
+
+  -- what such a tag does to the state
+  pub record Moved : Type 0 where
+    pub there : st .at + 2 ≤ length b
+    pub on : st .at + 2 ≤ tagNext b st .at
+    pub upto : tagNext b st .at ≤ length b
+    pub some-open : opening b (st .at) ≡ false → 1 ≤ st .depth
+    pub nested : st .depth ≤ st .count → tagNext b st .depth ≤ tagNext b st .count
+    pub few : st .count ≤ most → tagNext b st .count ≤ most
+
+  opened-moved : Opened → Moved
+  opened-moved o =
+      let at-is = ap (λ (s : Scan). s .at) (o .is) in
+      let depth-is = ap (λ (s : Scan). s .depth) (o .is) in
+      let count-is = ap (λ (s : Scan). s .count) (o .is) in
+      record {
+        there = omega (arith, o .body);
+        on = omega (arith, at-is);
+        upto = omega (arith, at-is, o .body);
+        some-open = λ z. let q : _≡_ {A = ℕ} 0 1 = cc in absurd (omega arith);
+        nested = λ z. omega (arith, depth-is, count-is);
+        few = λ z. omega (arith, o .few, count-is);
+      }
+
+  closed-moved : Closed → Moved
+  closed-moved c =
+      let at-is = ap (λ (s : Scan). s .at) (c .is) in
+      let depth-is = ap (λ (s : Scan). s .depth) (c .is) in
+      let count-is = ap (λ (s : Scan). s .count) (c .is) in
+      record {
+        there = c .mark;
+        on = omega (arith, at-is);
+        upto = omega (arith, at-is, c .mark);
+        some-open = λ z. c .some-open;
+        nested = λ z. omega (arith, depth-is, count-is);
+        few = λ z. omega (arith, count-is);
+      }
+
+  pub tag-moved : tagFault any most b st ≡ 0 → Moved
+  tag-moved h = elim (tag-passed h) [ inl o ↦ opened-moved o | inr c ↦ closed-moved c ]

@@ -4,3 +4,4 @@ pub mod Scans
 pub mod Room
 pub mod Records
 pub mod TagLists
+pub mod Builds

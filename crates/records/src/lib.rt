@@ -14,6 +14,7 @@ ghost use Rattle.records.specs.Room.{frontWith, RoomPromise};
 ghost use Rattle.records.specs.Records.{recordFault, recordNext, recordsEnd, recordsScan, numbersFrom, entryBytes, bytesFrom, namelessFrom, writeFault, ReadPromise, WritePromise};
 ghost use Rattle.trees.specs.Tags.{Tag, WholeTags};
 ghost use Rattle.records.specs.TagLists.{tagBytes, namelessAt, opening, rootClosed, misnested, tagFault, tagNext, treeEnd, treeScan, tagsFrom, numbersIn, TagsPromise, ReadingPromise, TreePromise};
+ghost use Rattle.records.specs.Builds.{buildNext, buildRoom};
 use checking::Kind;
 use checking::PreRank;
 use checking::Refusal;
@@ -30,6 +31,14 @@ pub struct Scan {
 pub enum TreeRead {
     Tree(usize, usize),
     Refused(Refusal),
+}
+
+// Where the building of a signature stands: the place of the next tag, the elements opened, the innermost open one, the elements closed.
+pub struct Building {
+    pub at: usize,
+    pub size: u16,
+    pub top: u16,
+    pub closed: u16,
 }
 
 // What a reader's judging pass came to: the refusal's number, or 0, and where it stands, at a refusal before the refused record.
@@ -382,4 +391,180 @@ fn is_tree_end(bytes: &[u8], whole: bool, st: Scan) -> bool
         return true;
     }
     false
+}
+
+// Judges the tags from a place on.
+fn scan_tags(bytes: &[u8], whole: bool, any_name: bool, most: u16, from: usize) -> Judged
+    requires { ⌜ most ≤ 4096 ⌝ }
+    ensures { λ r. ⌜ (r .state ≡ treeScan «whole» «any_name» most (now (bytes .entry)) from .state) × (r .fault ≡ haltNumber (treeScan «whole» «any_name» most (now (bytes .entry)) from .halt)) × (r .state .count ≤ 4096) ⌝ }
+{
+    let mut st = Scan {
+        at: from,
+        depth: 0,
+        count: 0,
+    };
+    loop {
+        if is_tree_end(bytes, whole, st) {
+            return Judged {
+                fault: 0,
+                state: st,
+            };
+        }
+        let fault = tag_fault(bytes, any_name, most, st);
+        if fault != 0 {
+            return Judged {
+                fault,
+                state: st,
+            };
+        }
+        st = tag_next(bytes, st);
+    }
+}
+
+// The number at a place of the room, 0 outside.
+fn word_at(room: &[u16], at: usize) -> u16
+    ensures { λ r. ⌜ r ≡ getD (now (room .entry)) at 0 ⌝ }
+{
+    if at < room.len() {
+        return room[at];
+    }
+    0
+}
+
+// Writes a number at a place of the room, if it has that place.
+fn put(room: &mut [u16], at: usize, v: u16)
+    ensures { λ _. ⌜ now (room .exit) ≡ set (now (room .entry)) at v ⌝ }
+{
+    if room.len() <= at {
+        return;
+    }
+    room[at] = v;
+}
+
+// Where the numbers of an entry begin.
+fn entry_place(i: u16) -> usize
+    ensures { λ r. ⌜ r ≡ 4 * (i - 1) ⌝ }
+{
+    if i == 0 {
+        return 0;
+    }
+    4 * ((i as usize) - 1)
+}
+
+// The entry of an element that opens.
+fn open_entry(room: &mut [u16], size: u16, name: u16, top: u16)
+    ensures { λ _. ⌜ now (room .exit) ≡ sets (now (room .entry)) (4 * size) (name ∷ 0 ∷ 0 ∷ top ∷ []) ⌝ }
+{
+    let at = 4 * (size as usize);
+    put(room, at, name);
+    put(room, at + 1, 0);
+    put(room, at + 2, 0);
+    put(room, at + 3, top);
+}
+
+// The entry of an element that closes.
+fn close_entry(room: &mut [u16], top: u16, post: u16, ff: u16)
+    ensures { λ _. ⌜ now (room .exit) ≡ sets (now (room .entry)) (4 * (top - 1) + 1) (post ∷ ff ∷ []) ⌝ }
+{
+    let at = entry_place(top);
+    put(room, at + 1, post);
+    put(room, at + 2, ff);
+}
+
+// Builds the entry that the next tag opens or closes.
+fn build_next(bytes: &[u8], room: &mut [u16], st: Building) -> Building
+    requires { ⌜ (st .at ≤ length (now bytes) + 32768) × (st .size < 32768) × (st .closed < 32768) ⌝ }
+    ensures { λ r. ⌜ (r ≡ buildNext (now (bytes .entry)) (now (room .entry)) st) × (now (room .exit) ≡ buildRoom (now (bytes .entry)) (now (room .entry)) st) ⌝ }
+{
+    let at = st.at;
+    let size = st.size;
+    let top = st.top;
+    let closed = st.closed;
+    if is_marked(bytes, at, 79, 80) {
+        let name = number_at(bytes, at + 2);
+        open_entry(room, size, name, top);
+        return Building {
+            at: at + 4,
+            size: size + 1,
+            top: size + 1,
+            closed,
+        };
+    }
+    let place = entry_place(top);
+    let up = word_at(room, place + 3);
+    close_entry(room, top, closed + 1, size + 1);
+    Building {
+        at: at + 2,
+        size,
+        top: up,
+        closed: closed + 1,
+    }
+}
+
+// Builds the signature of the tree of count elements whose tags stand from a place on.
+fn build_tree(bytes: &[u8], from: usize, count: u16, room: &mut [u16])
+    requires { ⌜ (from ≤ length (now bytes)) × (count ≤ 4096) × (width * count ≤ length (now room)) × WholeTags (tagsFrom (now bytes) (2 * count) from) ⌝ }
+    ensures { λ _. ⌜ now (room .exit) ≡ frontWith (numbersIn (now (bytes .entry)) from count) (now (room .entry)) ⌝ }
+{
+    let total = 2 * count;
+    let mut steps: u16 = 0;
+    let mut st = Building {
+        at: from,
+        size: 0,
+        top: 0,
+        closed: 0,
+    };
+    while steps < total {
+        st = build_next(bytes, room, st);
+        steps += 1;
+    }
+}
+
+// A refusal of a reading, which names no entry.
+fn unread(number: u16) -> TreeRead
+    ensures { λ r. ⌜ r ≡ TreeRead.Refused (record { number = number; entry = record { 0 = 0 } }) ⌝ }
+{
+    TreeRead::Refused(Refusal {
+        number,
+        entry: PreRank(0),
+    })
+}
+
+// Reads one tree from a place on, to the end of the bytes or to the close of its root. It judges first and writes then.
+fn read_tags(kind: Kind, bytes: &[u8], whole: bool, from: usize, room: &mut [u16]) -> TreeRead
+    ensures { λ r. ⌜ ReadingPromise «whole» kind (now (bytes .entry)) from (now (room .entry)) r (now (room .exit)) ⌝ }
+{
+    let any_name = kind.any_name();
+    let most = kind.most();
+    let judged = scan_tags(bytes, whole, any_name, most, from);
+    let fault = judged.fault;
+    if fault != 0 {
+        return unread(fault);
+    }
+    let count = judged.state.count;
+    let end = judged.state.at;
+    let size = count as usize;
+    if room.len() < 4 * size {
+        return unread(checking::NO_ROOM);
+    }
+    build_tree(bytes, from, count, room);
+    TreeRead::Tree(4 * size, end)
+}
+
+// Reads one tree of a kind from a place of the bytes on into the room, and says where it ended.
+pub fn read_tree(kind: Kind, bytes: &[u8], from: usize, room: &mut [u16]) -> TreeRead
+    ensures { λ r. ⌜ TreePromise kind (now (bytes .entry)) from (now (room .entry)) r (now (room .exit)) ⌝ }
+{
+    read_tags(kind, bytes, false, from, room)
+}
+
+// Reads one whole tag list of a kind of tree into the room.
+pub fn tags_to_signature(kind: Kind, bytes: &[u8], room: &mut [u16]) -> Written
+    ensures { λ r. ⌜ TagsPromise kind (now (bytes .entry)) (now (room .entry)) r (now (room .exit)) ⌝ }
+{
+    let got = read_tags(kind, bytes, true, 0, room);
+    match got {
+        TreeRead::Tree(length, _) => Written::Length(length),
+        TreeRead::Refused(refusal) => Written::Refused(refusal),
+    }
 }
