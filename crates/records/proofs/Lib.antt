@@ -4,3 +4,5 @@ pub mod Faults
 pub mod Filling
 pub mod TagFaults
 pub mod Build
+pub mod Judging
+pub mod Reading

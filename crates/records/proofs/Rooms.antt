@@ -22,16 +22,16 @@ abbrev pub refusedBy : ℕ → ℕ → Written
 refusedBy number entry = Written.Refused (record { number = number; entry = record { 0 = entry } })
 
 module _ (number entry : ℕ) (result room : List ℕ) where
-  refused-is : (number ≡ 0 → ⊥) → leftBy number entry result room ≡ record { answer = record { number = number; length = 0; entry = entry }; room = room }
+  pub refused-is : (number ≡ 0 → ⊥) → leftBy number entry result room ≡ record { answer = record { number = number; length = 0; entry = entry }; room = room }
   unfolding leftBy
   refused-is h = simp (ne-eqb _ _ h)
 
-  short-is : number ≡ 0 → length room < length result
+  pub short-is : number ≡ 0 → length room < length result
       → leftBy number entry result room ≡ record { answer = record { number = 10; length = 0; entry = 0 }; room = room }
   unfolding leftBy
   short-is h l = simp (eq-eqb _ _ h, lt-leb _ _ l)
 
-  written-is : number ≡ 0 → length result ≤ length room
+  pub written-is : number ≡ 0 → length result ≤ length room
       → leftBy number entry result room ≡ record { answer = record { number = 0; length = length result; entry = 0 }; room = frontWith result room }
   unfolding leftBy
   written-is h l = simp (eq-eqb _ _ h, le-leb _ _ l)

@@ -83,7 +83,7 @@ module _ (ended : Scan → Bool) (fault : Scan → ℕ) (next : Scan → Scan) (
   Passed k st to = Moves Scan ended (stepBy fault next) k st to
 
   -- a step that was taken
-  step-inverse : (st to : Scan) → stepBy fault next st ≡ moved to → (fault st ≡ 0) × (to ≡ next st)
+  pub step-inverse : (st to : Scan) → stepBy fault next st ≡ moved to → (fault st ≡ 0) × (to ≡ next st)
   unfolding stepBy
   step-inverse st to = go (eqb (fault st) 0) refl
     where

@@ -1,3 +1,6 @@
+use mathlib.Core.Path.{refl, sym, _∙_, _≡_}
+use Rattle.checking.proofs.Runs.{most-small}
+use Rattle.records.proofs.Reading.{reading-refused, reading-short, reading-place, reading-tags, reading-done}
 use native.Mathlib.Omega.{arith}
 use borrow.Author.Needs.{needs}
 use Rattle.records.proofs.read_tags.Statement.{statement}
@@ -20,7 +23,7 @@ most-requires c κs = search needs
 
 -- src/lib.rt:539:9
 scan-tags-requires : tie.Need-scan-tags-requires
-scan-tags-requires c κs = search needs
+scan-tags-requires c κs = omega (arith, c .most .ensures, most-small (c .before .before .before .before .args .kind))
 
 -- src/lib.rt:542:9
 unread-requires : tie.Need-unread-requires
@@ -28,7 +31,8 @@ unread-requires c κs = search needs
 
 -- src/lib.rt:542:9
 returns : tie.Need-returns
-returns c = search needs
+returns c =     let s = c .before .before .scan-tags .ensures in
+    reading-refused _ (c .before .before .before .before .before .before .before .args .kind) _ _ _ _ _ (c .before .before .before .before .any-name .ensures) (c .before .before .before .most .ensures) _ _ (s .0) (s .1) _ (c .unread .ensures) (omega arith)
 
 -- src/lib.rt:546:16
 cast-size : tie.Need-cast-size
@@ -44,11 +48,15 @@ unread-requires-2 c κs = search needs
 
 -- src/lib.rt:548:9
 returns-2 : tie.Need-returns-2
-returns-2 c = search needs
+returns-2 c =     let s = c .before .before .before .scan-tags .ensures in
+    reading-short _ (c .before .before .before .before .before .before .before .before .args .kind) _ _ _ _ _ (c .before .before .before .before .before .any-name .ensures) (c .before .before .before .before .most .ensures) _ _ (s .0) (s .1) _ (c .unread2 .ensures) (omega arith) (omega arith)
 
 -- src/lib.rt:550:5
 build-tree-requires : tie.Need-build-tree-requires
-build-tree-requires c κs = search needs
+build-tree-requires c κs =     let s = c .before .before .before .scan-tags .ensures in
+    let e : c .before .before .before .scan-tags .result .fault ≡ 0 = omega arith in
+    let z = sym (s .1) ∙ e in
+    (reading-place _ _ _ _ _ _ (s .0) z, s .2, omega arith, reading-tags _ _ _ _ _ _ (s .0) z)
 
 -- src/lib.rt:551:20
 mul-t14 : tie.Need-mul-t14
@@ -60,7 +68,8 @@ same-length c = search needs
 
 -- src/lib.rt:534:1
 returns-3 : tie.Need-returns-3
-returns-3 c = search needs
+returns-3 c =     let s = c .before .before .before .before .before .before .scan-tags .ensures in
+    reading-done _ (c .before .before .before .before .before .before .before .before .before .before .before .args .kind) _ _ _ _ _ (c .before .before .before .before .before .before .before .before .any-name .ensures) (c .before .before .before .before .before .before .before .most .ensures) _ _ (s .0) (s .1) _ _ refl (omega arith) (omega arith) (c .before .before .build-tree .ensures)
 
 pub read-tags-spec : {M : Type 1} → statement M
 read-tags-spec =

@@ -1,3 +1,5 @@
+use mathlib.Core.Path.{refl}
+use Rattle.records.proofs.Reading.{tags-written, tags-refused}
 use native.Mathlib.Omega.{arith}
 use borrow.Author.Needs.{needs}
 use Rattle.records.proofs.tags_to_signature.Statement.{statement}
@@ -24,7 +26,7 @@ same-length c = search needs
 
 -- src/lib.rt:562:1
 returns : tie.Need-returns
-returns c = search needs
+returns c = tags-written (c .before .before .before .before .before .before .before .before .before .args .kind) _ _ _ _ (c .before .before .before .before .before .read-tags .ensures) _ _ _ (c .before .got .given .1) refl
 
 -- src/lib.rt:562:1
 same-length-2 : tie.Need-same-length-2
@@ -32,7 +34,7 @@ same-length-2 c = search needs
 
 -- src/lib.rt:562:1
 returns-2 : tie.Need-returns-2
-returns-2 c = search needs
+returns-2 c = tags-refused (c .before .before .before .before .before .before .before .before .before .args .kind) _ _ _ _ (c .before .before .before .before .before .read-tags .ensures) _ _ (c .before .got2 .given .1) refl
 
 pub tags-to-signature-spec : {M : Type 1} → statement M
 tags-to-signature-spec =
