@@ -9,7 +9,6 @@ use mathlib.Core.List.{List, [], _∷_, _++_}
 use native.Mathlib.Omega.{arith}
 use lib.ListN.{length}
 use lib.Dec.{eqb}
-use borrow.Author.Tests.{ne-eqb}
 use Rattle.turns.specs.Pick.{pick}
 use Rattle.turns.specs.Turn.{Turned}
 use Rattle.trees.specs.Tree.{whole}
@@ -37,20 +36,17 @@ unreadBy number = TreeRead.Refused (record { number = number; entry = record { 0
 
 module _ (number end : ℕ) (result room : List ℕ) where
   left-as : (r : TreeRead) (after : List ℕ) (x : Left) → leftBy number 0 result room ≡ x → readTold r .answer ≡ x .answer
-      → readTold r .end ≡ pick (eqb (x .answer .number) 0) end 0 → after ≡ x .room → ReadLeft number end result room r after
+      → readTold r .end ≡ pick (eqb (x .answer .refused) 0) end 0 → after ≡ x .room → ReadLeft number end result room r after
   left-as r after x q u v w = record {
     told = u ∙ ap (λ (y : Left). y .answer) (sym q);
-    ended = v ∙ ap (λ (y : Left). pick (eqb (y .answer .number) 0) end 0) (sym q);
+    ended = v ∙ ap (λ (y : Left). pick (eqb (y .answer .refused) 0) end 0) (sym q);
     left = w ∙ ap (λ (y : Left). y .room) (sym q);
   }
-
-  zero-end : (n : ℕ) → (n ≡ 0 → ⊥) → 0 ≡ pick (eqb n 0) end 0
-  zero-end n h = rw (ne-eqb n 0 h)
 
   pub left-refused : (r : TreeRead) → r ≡ unreadBy number → (number ≡ 0 → ⊥) → ReadLeft number end result room r room
   left-refused r q h =
       left-as r room _ (refused-is number 0 result room h) (ap (λ (x : TreeRead). readTold x .answer) q)
-      (ap (λ (x : TreeRead). readTold x .end) q ∙ zero-end number h) refl
+      (ap (λ (x : TreeRead). readTold x .end) q) refl
 
   pub left-short : (r : TreeRead) → r ≡ unreadBy 10 → number ≡ 0 → length room < length result → ReadLeft number end result room r room
   left-short r q h l =

@@ -9,7 +9,7 @@ use native.Mathlib.Nat.{zero-add}
 use lib.ListN.{length, drop, set, length-append}
 use lib.Seq.{sets, sets-eq, length-sets}
 use borrow.Author.Tests.{eq-eqb, ne-eqb, le-leb, lt-leb}
-use Rattle.checking.specs.Stops.{Answered, answered}
+use Rattle.checking.specs.Stops.{Answered, answered, worked, refusedAs}
 use Rattle.checking.specs.declared.Written.{Written}
 use Rattle.records.specs.Room.{Left, leftBy, frontWith, RoomPromise}
 
@@ -22,17 +22,17 @@ abbrev pub refusedBy : ℕ → ℕ → Written
 refusedBy number entry = Written.Refused (record { number = number; entry = record { 0 = entry } })
 
 module _ (number entry : ℕ) (result room : List ℕ) where
-  pub refused-is : (number ≡ 0 → ⊥) → leftBy number entry result room ≡ record { answer = record { number = number; length = 0; entry = entry }; room = room }
+  pub refused-is : (number ≡ 0 → ⊥) → leftBy number entry result room ≡ record { answer = refusedAs number entry; room = room }
   unfolding leftBy
   refused-is h = simp (ne-eqb _ _ h)
 
   pub short-is : number ≡ 0 → length room < length result
-      → leftBy number entry result room ≡ record { answer = record { number = 10; length = 0; entry = 0 }; room = room }
+      → leftBy number entry result room ≡ record { answer = refusedAs 10 0; room = room }
   unfolding leftBy
   short-is h l = simp (eq-eqb _ _ h, lt-leb _ _ l)
 
   pub written-is : number ≡ 0 → length result ≤ length room
-      → leftBy number entry result room ≡ record { answer = record { number = 0; length = length result; entry = 0 }; room = frontWith result room }
+      → leftBy number entry result room ≡ record { answer = worked (length result); room = frontWith result room }
   unfolding leftBy
   written-is h l = simp (eq-eqb _ _ h, le-leb _ _ l)
 
@@ -41,16 +41,16 @@ module _ (number entry : ℕ) (result room : List ℕ) where
   promised a w after q e =
       record { told = e ∙ ap (λ (x : Left). x .answer) (sym q); left = ap (λ (x : Left). x .room) (sym q) }
 
-  pub room-refused : (w : Written) (after : List ℕ) → (number ≡ 0 → ⊥) → answered w ≡ record { number = number; length = 0; entry = entry }
+  pub room-refused : (w : Written) (after : List ℕ) → (number ≡ 0 → ⊥) → answered w ≡ refusedAs number entry
       → after ≡ room → RoomPromise number entry result room w after
   room-refused w after h e q = rw q (promised _ w room (refused-is h) e)
 
   pub room-short : (w : Written) (after : List ℕ) → number ≡ 0 → length room < length result
-      → answered w ≡ record { number = 10; length = 0; entry = 0 } → after ≡ room → RoomPromise number entry result room w after
+      → answered w ≡ refusedAs 10 0 → after ≡ room → RoomPromise number entry result room w after
   room-short w after h l e q = rw q (promised _ w room (short-is h l) e)
 
   pub room-written : (w : Written) (after : List ℕ) → number ≡ 0 → length result ≤ length room
-      → answered w ≡ record { number = 0; length = length result; entry = 0 } → after ≡ frontWith result room
+      → answered w ≡ worked (length result) → after ≡ frontWith result room
       → RoomPromise number entry result room w after
   room-written w after h l e q = rw q (promised _ w _ (written-is h l) e)
 
@@ -59,7 +59,7 @@ module _ (number : ℕ) (result room : List ℕ) (w : Written) (f : ℕ) (is : f
   pub refused-with : w ≡ refusedBy f 0 → (f ≡ 0 → ⊥) → RoomPromise number 0 result room w room
   refused-with q h =
       room-refused number 0 result room w room (λ z. h (is ∙ z))
-      (ap answered q ∙ ap (λ (n : ℕ). record { number = n; length = 0; entry = 0 }) is) refl
+      (ap answered q ∙ ap (λ (n : ℕ). refusedAs n 0) is) refl
 
   pub short-with : w ≡ refusedBy 10 0 → f ≡ 0 → length room < length result → RoomPromise number 0 result room w room
   short-with q h l = room-short number 0 result room w room (sym is ∙ h) l (ap answered q) refl
@@ -68,7 +68,7 @@ module _ (number : ℕ) (result room : List ℕ) (w : Written) (f : ℕ) (is : f
       → after ≡ frontWith result room → RoomPromise number 0 result room w after
   written-with k after q h e l r =
       room-written number 0 result room w after (sym is ∙ h) l
-      (ap answered q ∙ ap (λ (n : ℕ). record { number = 0; length = n; entry = 0 }) e) r
+      (ap answered q ∙ ap (λ (n : ℕ). worked n) e) r
 
 -- ---- stores
 

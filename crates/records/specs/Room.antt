@@ -8,7 +8,7 @@ use mathlib.Core.List.{List, _++_}
 use lib.ListN.{length, drop}
 use lib.Dec.{leb, eqb}
 use Rattle.turns.specs.Pick.{pick}
-use Rattle.checking.specs.Stops.{Answered, answered}
+use Rattle.checking.specs.Stops.{Answered, answered, worked, refusedAs}
 use Rattle.checking.specs.declared.Written.{Written}
 
 pub record Left : Type 0 where
@@ -25,9 +25,9 @@ unfoldable pub leftBy : ℕ → ℕ → List ℕ → List ℕ → Left
 leftBy number entry result room =
     pick (eqb number 0)
     (pick (leb (length result) (length room))
-    (record { answer = record { number = 0; length = length result; entry = 0 }; room = frontWith result room })
-    (record { answer = record { number = 10; length = 0; entry = 0 }; room = room }))
-    (record { answer = record { number = number; length = 0; entry = entry }; room = room })
+    (record { answer = worked (length result); room = frontWith result room })
+    (record { answer = refusedAs 10 0; room = room }))
+    (record { answer = refusedAs number entry; room = room })
 
 -- the promise of a call that writes into lent room
 pub record RoomPromise (number entry : ℕ) (result room : List ℕ) (w : Written) (after : List ℕ) : Type 0 where

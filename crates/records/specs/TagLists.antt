@@ -19,7 +19,7 @@ use Rattle.trees.specs.Tree.{Tree}
 use Rattle.trees.specs.Signature.{signature}
 use Rattle.trees.specs.Tags.{Tag, opens, closes, treeOf}
 use Rattle.checking.specs.Kinds.{anyName, most}
-use Rattle.checking.specs.Stops.{Answered}
+use Rattle.checking.specs.Stops.{Answered, worked, refusedAs}
 use Rattle.checking.specs.declared.Kind.{Kind}
 use Rattle.checking.specs.declared.Written.{Written}
 use Rattle.records.specs.declared.Scan.{Scan}
@@ -100,13 +100,13 @@ pub record ReadTold : Type 0 where
   pub end : ℕ
 
 abbrev pub readTold : TreeRead → ReadTold
-readTold (TreeRead.Tree l end) = record { answer = record { number = 0; length = l; entry = 0 }; end = end }
-readTold (TreeRead.Refused r) = record { answer = record { number = r .number; length = 0; entry = r .entry .0 }; end = 0 }
+readTold (TreeRead.Tree l end) = record { answer = worked l; end = end }
+readTold (TreeRead.Refused r) = record { answer = refusedAs (r .number) (r .entry .0); end = 0 }
 
 -- what a reading answers and leaves
 pub record ReadLeft (number end : ℕ) (result room : List ℕ) (r : TreeRead) (after : List ℕ) : Type 0 where
   pub told : readTold r .answer ≡ leftBy number 0 result room .answer
-  pub ended : readTold r .end ≡ pick (eqb (leftBy number 0 result room .answer .number) 0) end 0
+  pub ended : readTold r .end ≡ pick (eqb (leftBy number 0 result room .answer .refused) 0) end 0
   pub left : after ≡ leftBy number 0 result room .room
 
 -- one whole reading: of the bytes from place p on, to their end or to the close of the root
