@@ -6,3 +6,4 @@ pub mod TagFaults
 pub mod Build
 pub mod Judging
 pub mod Reading
+pub mod Emit

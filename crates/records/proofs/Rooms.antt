@@ -101,6 +101,9 @@ module _ (room₀ all : List ℕ) where
       → room ≡ frontWith all room₀
   storing-end room p left s q h = sym (ap (sets room p) q) ∙ s .same ∙ front-sets all room₀ h
 
+pub sets-two : (room : List ℕ) (i a b : ℕ) → set (set room i a) (i + 1) b ≡ sets room i (a ∷ b ∷ [])
+sets-two room i a b = let p : i + 1 ≡ suc i = omega arith in cc
+
 pub sets-four : (room : List ℕ) (i a b c d : ℕ)
     → set (set (set (set room i a) (i + 1) b) (i + 2) c) (i + 3) d ≡ sets room i (a ∷ b ∷ c ∷ d ∷ [])
 sets-four room i a b c d =

@@ -5,3 +5,4 @@ pub mod Room
 pub mod Records
 pub mod TagLists
 pub mod Builds
+pub mod TagsBack

@@ -1,7 +1,8 @@
 -- What a single call that writes into lent room answers, and what it leaves there.
 --   Left                  the answer in numbers, and what the room holds at exit
 --   leftBy …              from the refusal before room (0: none) with its entry, the result, and the room at entry
---   RoomPromise …         the answer and the room at exit are these
+--   LeftPromise x w after the answer and the room at exit are those of x
+--   RoomPromise …         the same, from these
 use Prim.Native.Nat.{ℕ}
 use mathlib.Core.Path.{_≡_}
 use mathlib.Core.List.{List, _++_}
@@ -29,7 +30,11 @@ leftBy number entry result room =
     (record { answer = refusedAs 10 0; room = room }))
     (record { answer = refusedAs number entry; room = room })
 
+-- a call answers this and leaves this
+pub record LeftPromise (x : Left) (w : Written) (after : List ℕ) : Type 0 where
+  pub told : answered w ≡ x .answer
+  pub left : after ≡ x .room
+
 -- the promise of a call that writes into lent room
-pub record RoomPromise (number entry : ℕ) (result room : List ℕ) (w : Written) (after : List ℕ) : Type 0 where
-  pub told : answered w ≡ leftBy number entry result room .answer
-  pub left : after ≡ leftBy number entry result room .room
+abbrev pub RoomPromise : ℕ → ℕ → List ℕ → List ℕ → Written → List ℕ → Type 0
+RoomPromise number entry result room w after = LeftPromise (leftBy number entry result room) w after

@@ -15,9 +15,13 @@ ghost use Rattle.records.specs.Records.{recordFault, recordNext, records
 ghost use Rattle.trees.specs.Tags.{Tag, WholeTags};
 ghost use Rattle.records.specs.TagLists.{tagBytes, namelessAt, opening, rootClosed, misnested, tagFault, tagNext, treeEnd, treeScan, tagsFrom, numbersIn, TagsPromise, ReadingPromise, TreePromise};
 ghost use Rattle.records.specs.Builds.{buildNext, buildRoom};
+ghost use Rattle.trees.specs.Tree.{Tree, size, whole};
+ghost use Rattle.trees.specs.Signature.{signature};
+ghost use Rattle.records.specs.TagsBack.{backBytes, endsAt, emitted, emitNext, BackPromise};
 use checking::Kind;
 use checking::PreRank;
 use checking::Refusal;
+use checking::Verdict;
 use checking::Written;
 
 // Where a reader stands: the place of the next record, the elements that are open, and the elements or entries read so far.
@@ -39,6 +43,13 @@ pub struct Building {
     pub size: u16,
     pub top: u16,
     pub closed: u16,
+}
+
+// Where the writing of a tag list stands: the place of the next tag, the next entry to open, the innermost open one.
+pub struct Emitting {
+    pub at: usize,
+    pub next: u16,
+    pub top: u16,
 }
 
 // What a reader's judging pass came to: the refusal's number, or 0, and where it stands, at a refusal before the refused record.
@@ -566,5 +577,107 @@ pub fn tags_to_signature(kind: Kind, bytes: &[u8], room: &mut [u16]) -> Written
     match got {
         TreeRead::Tree(length, _) => Written::Length(length),
         TreeRead::Refused(refusal) => Written::Refused(refusal),
+    }
+}
+
+// Writes an `OP` and a name at a place of the room.
+fn put_open(room: &mut [u8], at: usize, name: u16)
+    requires { ⌜ at + 4 ≤ length (now room) ⌝ }
+    ensures { λ _. ⌜ now (room .exit) ≡ sets (now (room .entry)) at (79 ∷ 80 ∷ low name ∷ high name ∷ []) ⌝ }
+{
+    room[at] = 79;
+    room[at + 1] = 80;
+    room[at + 2] = (name % 256) as u8;
+    room[at + 3] = (name / 256) as u8;
+}
+
+// Writes a `CL` at a place of the room.
+fn put_close(room: &mut [u8], at: usize)
+    requires { ⌜ at + 2 ≤ length (now room) ⌝ }
+    ensures { λ _. ⌜ now (room .exit) ≡ sets (now (room .entry)) at (67 ∷ 76 ∷ []) ⌝ }
+{
+    room[at] = 67;
+    room[at + 1] = 76;
+}
+
+// Whether the innermost open element ends before the next entry.
+fn is_ending(sig: &[u16], next: u16, top: u16) -> bool
+    ensures { λ r. ⌜ «r» ≡ endsAt (now (sig .entry)) next top ⌝ }
+{
+    if top == 0 {
+        return false;
+    }
+    if checking::entry_number(sig, PreRank(top), 2) == next {
+        true
+    } else {
+        false
+    }
+}
+
+// Writes the next tag: an element that ends before the next entry closes, else the next entry opens.
+fn emit_next(sig: &[u16], room: &mut [u8], st: Emitting) -> Emitting
+    requires { ⌜ (st .at + length (emitted (now sig) st) ≤ length (now room)) × (st .next < 65535) ⌝ }
+    ensures { λ r. ⌜ (r ≡ emitNext (now (sig .entry)) st) × (now (room .exit) ≡ sets (now (room .entry)) (st .at) (emitted (now (sig .entry)) st)) ⌝ }
+{
+    let at = st.at;
+    let next = st.next;
+    let top = st.top;
+    if is_ending(sig, next, top) {
+        put_close(room, at);
+        let up = checking::entry_number(sig, PreRank(top), 3);
+        return Emitting {
+            at: at + 2,
+            next,
+            top: up,
+        };
+    }
+    let name = checking::entry_number(sig, PreRank(next), 0);
+    put_open(room, at, name);
+    Emitting {
+        at: at + 4,
+        next: next + 1,
+        top: next,
+    }
+}
+
+// Writes the tag list of a tree's signature to the front of the room.
+fn write_tags(sig: &[u16], count: u16, room: &mut [u8])
+    requires { ⌜ (count ≤ 4096) × (6 * count ≤ length (now room)) × ((t : Tree) × (now sig ≡ signature t) × (size (whole t) ≡ count)) ⌝ }
+    ensures { λ _. ⌜ now (room .exit) ≡ frontWith (backBytes (now (sig .entry))) (now (room .entry)) ⌝ }
+{
+    let total = 2 * count;
+    let mut steps: u16 = 0;
+    let mut st = Emitting {
+        at: 0,
+        next: 1,
+        top: 0,
+    };
+    while steps < total {
+        st = emit_next(sig, room, st);
+        steps += 1;
+    }
+}
+
+// Writes the tag list of a tree's signature, if the room is long enough.
+fn write_back(sig: &[u16], room: &mut [u8]) -> Written
+    requires { ⌜ ((t : Tree) × (now sig ≡ signature t) × (size (whole t) ≤ 4096)) ⌝ }
+    ensures { λ r. ⌜ RoomPromise 0 0 (backBytes (now (sig .entry))) (now (room .entry)) r (now (room .exit)) ⌝ }
+{
+    let size = sig.len() / 4;
+    if room.len() / 6 < size {
+        return refused(checking::NO_ROOM);
+    }
+    write_tags(sig, size as u16, room);
+    Written::Length(6 * size)
+}
+
+// Writes a signature of a kind of tree as a tag list into the room.
+pub fn signature_to_tags(kind: Kind, sig: &[u16], room: &mut [u8]) -> Written
+    ensures { λ r. ⌜ BackPromise kind (now (sig .entry)) (now (room .entry)) r (now (room .exit)) ⌝ }
+{
+    let verdict = checking::check_whole(kind, sig);
+    match verdict {
+        Verdict::Accepted => write_back(sig, room),
+        Verdict::Refused(refusal) => Written::Refused(refusal),
     }
 }
