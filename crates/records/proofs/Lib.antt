@@ -7,3 +7,4 @@ pub mod Build
 pub mod Judging
 pub mod Reading
 pub mod Emit
+pub mod Back

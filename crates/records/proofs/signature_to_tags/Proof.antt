@@ -1,3 +1,5 @@
+use mathlib.Core.Path.{refl}
+use Rattle.records.proofs.Back.{accepted-back, back-written, back-refused}
 use native.Mathlib.Omega.{arith}
 use borrow.Author.Needs.{needs}
 use Rattle.records.proofs.signature_to_tags.Statement.{statement}
@@ -17,7 +19,7 @@ enum-told c = search needs
 
 -- src/lib.rt:680:30
 write-back-requires : tie.Need-write-back-requires
-write-back-requires c κs = search needs
+write-back-requires c κs = accepted-back (c .before .before .before .before .before .before .args .kind) _ _ (c .before .before .before .check-whole .ensures) (c .before .enum-told .given .1)
 
 -- src/lib.rt:681:26
 enum-known-verdict : tie.Need-enum-known-verdict
@@ -29,11 +31,11 @@ same-length c = search needs
 
 -- src/lib.rt:675:1
 returns : tie.Need-returns
-returns c = search needs
+returns c = back-written (c .before .before .before .before .before .before .before .before .before .args .kind) _ _ (c .before .before .before .before .before .before .check-whole .ensures) _ _ _ (c .before .before .before .before .enum-told .given .1) (c .before .before .write-back .ensures)
 
 -- src/lib.rt:675:1
 returns-2 : tie.Need-returns-2
-returns-2 c = search needs
+returns-2 c = back-refused (c .before .before .before .before .before .before .args .kind) _ _ (c .before .before .before .check-whole .ensures) _ _ _ (c .before .verdict .given .1) refl
 
 pub signature-to-tags-spec : {M : Type 1} → statement M
 signature-to-tags-spec =
