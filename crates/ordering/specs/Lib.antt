@@ -1,0 +1,6 @@
+-- Ordering: what ordered answers are, the table of earliest ends, and the walk over it, with the laws that the ordered call leans on.
+-- Definitions
+pub mod Answer
+pub mod Twig
+-- Laws
+pub mod TwigLaws
