@@ -2,5 +2,8 @@
 -- Definitions
 pub mod Answer
 pub mod Twig
+pub mod Table
 -- Laws
 pub mod TwigLaws
+pub mod Pairwise
+pub mod Ends
