@@ -3,7 +3,10 @@
 pub mod Answer
 pub mod Twig
 pub mod Table
+pub mod Choosing
 -- Laws
 pub mod TwigLaws
 pub mod Pairwise
 pub mod Ends
+pub mod Chosen
+pub mod Walked
