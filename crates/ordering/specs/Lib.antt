@@ -10,3 +10,5 @@ pub mod Pairwise
 pub mod Ends
 pub mod Chosen
 pub mod Walked
+pub mod Answering
+pub mod Filling
