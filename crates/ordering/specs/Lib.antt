@@ -4,6 +4,7 @@ pub mod Answer
 pub mod Twig
 pub mod Table
 pub mod Choosing
+pub mod Spot
 -- Laws
 pub mod TwigLaws
 pub mod Pairwise
@@ -12,3 +13,5 @@ pub mod Chosen
 pub mod Walked
 pub mod Answering
 pub mod Filling
+pub mod Cases
+pub mod Spots
