@@ -15,3 +15,5 @@ pub mod Answering
 pub mod Filling
 pub mod Cases
 pub mod Spots
+pub mod Steps
+pub mod Arriving
