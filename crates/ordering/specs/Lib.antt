@@ -2,6 +2,7 @@
 -- Definitions
 pub mod Answer
 pub mod Twig
+pub mod Next
 pub mod Table
 pub mod Choosing
 pub mod Spot
@@ -17,3 +18,6 @@ pub mod Cases
 pub mod Spots
 pub mod Steps
 pub mod Arriving
+pub mod Starts
+pub mod NextLaws
+pub mod NextExactly
