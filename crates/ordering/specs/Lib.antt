@@ -21,3 +21,4 @@ pub mod Arriving
 pub mod Starts
 pub mod NextLaws
 pub mod NextExactly
+pub mod Listing
