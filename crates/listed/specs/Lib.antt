@@ -1,0 +1,6 @@
+-- Listed: what preparing and walking come to, on an accepted signature and an accepted twig.
+pub mod Loose
+pub mod Matching
+pub mod Bits
+pub mod Tables
+pub mod Rightly

@@ -1,0 +1,45 @@
+-- Loose answers, as document 01 defines them. No table is named here.
+--   Passes want name    the name test of a twig node
+--   Under e i j         j is below i
+--   rank l q            the number that the answer l gives node q
+--   Placed n e w x q    node q has a rank, its name passes, and it lies below the image of its twig parent unless it is the top node on hand
+--   LooseAnswer n m e w l   l is a loose answer, its numbers in twig preorder
+--   PartFits n e w q t  the twig's part under q fits loosely with q at t
+use Prim.Native.Nat.{ℕ, _-_, _≤_, _<_}
+use mathlib.Core.Path.{_≡_}
+use mathlib.Core.Logic.{_⊎_}
+use mathlib.Core.List.{List}
+use lib.ListN.{length, getD}
+use Rattle.trees.specs.Signature.{Entries}
+
+-- "a name must be equal unless the twig's is 0"
+abbrev pub Passes : ℕ → ℕ → Type 0
+Passes want name = (want ≡ 0) ⊎ (want ≡ name)
+
+-- "j is below i when i < j < ff of i"
+pub record Under (e : Entries) (i j : ℕ) : Type 0 where
+  pub after : i < j
+  pub before : j < e .ff i
+
+-- the number of node q, nodes counted from 1
+abbrev pub rank : List ℕ → ℕ → ℕ
+rank l q = getD l (q - 1) 0
+
+-- what an answer, or a part of one, says of a node: "gives each twig node a rank; a name must be equal unless the twig's is 0"
+pub record Ranked (n : ℕ) (e w : Entries) (x : ℕ → ℕ) (q : ℕ) : Type 0 where
+  pub low : 1 ≤ x q
+  pub high : x q ≤ n
+  pub name : Passes (w .name q) (e .name (x q))
+
+-- "each node but the root lies below the image of its twig parent. Two nodes may share an entry."
+pub record LooseAnswer (n m : ℕ) (e w : Entries) (l : List ℕ) : Type 0 where
+  pub nodes : length l ≡ m
+  pub each : (q : ℕ) → 1 ≤ q → q ≤ m → Ranked n e w (rank l) q
+  pub below : (q : ℕ) → 1 < q → q ≤ m → Under e (rank l (w .fa q)) (rank l q)
+
+-- the part under q, which is q and the nodes below it, fits with q at t: what a loose answer asks, of these nodes only
+pub record PartFits (n : ℕ) (e w : Entries) (q t : ℕ) : Type 0 where
+  pub image : ℕ → ℕ
+  pub top : image q ≡ t
+  pub each : (r : ℕ) → q ≤ r → r < w .ff q → Ranked n e w image r
+  pub below : (r : ℕ) → q < r → r < w .ff q → Under e (image (w .fa r)) (image r)
