@@ -4,3 +4,4 @@ pub mod Matching
 pub mod Bits
 pub mod Tables
 pub mod Rightly
+pub mod Keeping
