@@ -5,3 +5,8 @@ pub mod Bits
 pub mod Tables
 pub mod Rightly
 pub mod Keeping
+pub mod Questions
+pub mod Given
+pub mod Public
+pub mod Ruling
+pub mod Prepared

@@ -1,0 +1,162 @@
+-- Preparing an accepted signature for an accepted twig: n steps from the start call to the end, and then can says where each part of the twig fits.
+--   PreparedRight    what the table that preparing leaves says
+--   prepare-n        any chain of public turns that reports the end took n steps in all, and left such a table
+--   prepare-ends     one that may spend n steps reports the end; one that may spend fewer spends them all, and none is refused
+use Prim.Native.Nat.{ℕ, zero, suc, _+_, _-_, _*_, _≤_, _<_}
+use mathlib.Core.Path.{_≡_, refl, ap, _∙_, sym, subst}
+use mathlib.Core.Logic.{_⊎_, inl, inr, _↔_}
+use mathlib.Core.Bool.{Bool, true, false, _&&_, _||_}
+use mathlib.Core.List.{List, []}
+use native.Mathlib.Omega.{arith}
+use native.Mathlib.Decide.{decLe, ℕ-discrete}
+use lib.Dec.{eqb, leb, ltb}
+use lib.ListN.{length}
+use borrow.Author.Tests.{eq-eqb, ne-eqb, le-leb, lt-leb, lt-ltb, le-ltb, leb-true}
+use Rattle.turns.specs.Pick.{pick}
+use Rattle.turns.specs.Turn.{Next, moved, answered, refused, Halt, end, Turned, turn, Moves, stay, move, Step, on, found}
+use Rattle.turns.specs.Chains.{Chain, Reached, Underway, chain-ends}
+use Rattle.trees.specs.Signature.{Entries, entriesOf, width}
+use Rattle.trees.specs.Facts.{Facts, Each}
+use Rattle.checking.specs.declared.Stop.{Stop}
+use Rattle.checking.specs.Stops.{told, haltTold}
+use Rattle.checked.specs.Apart.{stopOf, told-halt}
+use Rattle.checked.specs.Yields.{entries}
+use Rattle.loose.specs.declared.Prep.{Prep}
+use Rattle.loose.specs.declared.PrepTurn.{PrepTurn}
+use Rattle.loose.specs.declared.Started.{Started}
+use Rattle.loose.specs.Masks.{hasBit, can}
+use Rattle.loose.specs.Preparing.{Preparing, prepared, badParent, stepTable, prepStep}
+use Rattle.loose.specs.PrepTurn.{cleared, Fresh, startTold, startFault, StartPromise, preparing, prepRunOf, prepTurnOf, prepInRange, PrepHanded, PrepPromise}
+use Rattle.listed.specs.Loose.{PartFits}
+use Rattle.listed.specs.Tables.{Parented, step-length, clear-length}
+use Rattle.listed.specs.Rightly.{Right, clear-right, right-fits}
+use Rattle.listed.specs.Ruling.{Finished, prep-moves, Ready, ready-kept, fault-room}
+use Rattle.listed.specs.Questions.{Accepted, Lent, PrepBack, lend, PrepTurns}
+use Rattle.listed.specs.Given.{Grounds, accepted-grounds, begun-runs}
+use Rattle.listed.specs.Public.{Back, Ran, chain-ran}
+
+-- ---- chains of public turns
+
+module _ (s tw : List ℕ) where
+  abbrev n : ℕ
+  n = entries s
+
+  abbrev m : ℕ
+  m = entries tw
+
+  abbrev e : Entries
+  e = entriesOf width s
+
+  abbrev w : Entries
+  w = entriesOf width tw
+
+  abbrev reading : Lent → Preparing
+  reading st = preparing (st .state) (st .table)
+
+  module _ (g : Grounds s tw) where
+    abbrev Is : PrepBack → Turned Preparing → Type 0
+    Is r t = Back lend (λ x. x .turn .steps) (λ x. x .turn .stop) reading r t
+
+    prep-runs : (b : ℕ) (st : Lent) (r : PrepBack) → Ready n (reading st) → PrepPromise s tw (st .table) b (st .state) (r .turn) (r .left)
+        → Is r (turn Preparing prepared (prepStep e w m) b (reading st))
+    prep-runs b st r i h =
+        let q : prepTurnOf s tw b (reading st) ≡ prepRunOf e w m b (reading st)
+              = begun-runs s tw g (length (st .table)) (reading st) (prepInRange n (reading st)) (prepRunOf e w m b (reading st))
+                (le-leb (st .state .next .0) n (i .next-high)) (i .room) in
+        let k : PrepHanded (r .turn) (r .left) (prepRunOf e w m b (reading st)) = subst (PrepHanded (r .turn) (r .left)) q h in
+        let t = prepRunOf e w m b (reading st) in
+        record {
+          state-same = λ j. record { next = (k .state) j .next .0; table = (k .leaves) j };
+          steps-same = k .steps;
+          stop-same = told-halt (r .turn .stop) (t .halt) (k .stop);
+        }
+
+    ran : {st : Lent} {B K : ℕ} {r : PrepBack} (c : PrepTurns s tw st B K r) (p : Preparing) → reading st ≡ p → Ready n p
+        → Ran (λ b from t. PrepPromise s tw (from .table) b (from .state) (t .turn) (t .left)) lend (λ t. t .turn .steps) (λ x. x .turn .stop)
+          reading prepared (prepStep e w m) (Ready n) (ready-kept n m e w) prep-runs {A = ℕ} (λ x. []) (λ x. []) (λ r t i x. refl) p c
+    ran c p q i =
+        chain-ran (λ b from t. PrepPromise s tw (from .table) b (from .state) (t .turn) (t .left)) lend (λ t. t .turn .steps) (λ x. x .turn .stop)
+        reading prepared (prepStep e w m) (Ready n) (ready-kept n m e w) prep-runs {A = ℕ} (λ x. []) (λ x. []) (λ r t i x. refl) c p q i
+
+    -- what a start call that worked left
+    record Begun (lent left : List ℕ) (p : Prep) : Type 0 where
+      next-is : p .next .0 ≡ n
+      table-is : left ≡ cleared (2 * n) lent
+      room : 2 * n ≤ length lent
+
+    start-left : (lent left : List ℕ) (p : Prep) → StartPromise n lent (Started.Fresh p) left → Begun lent left p
+    start-left lent left p h =
+        let f : startFault n (length lent) ≡ 0 = ap (λ (x : Fresh). x .number) (sym (h .answer)) in
+        let q : eqb (startFault n (length lent)) 0 ≡ true = eq-eqb _ _ f in
+        record {
+          next-is = ap (λ (x : Fresh). x .next) (h .answer) ∙ ap (λ (b : Bool). pick b n 0) q;
+          table-is = h .leaves ∙ ap (λ (b : Bool). pick b (cleared (2 * n) lent) lent) q;
+          room = fault-room n (length lent) f;
+        }
+
+    -- ---- the theorems
+
+    -- bit q of can of t says whether the twig's part under q fits loosely with q at t
+    pub record PreparedRight (left : List ℕ) : Type 0 where
+      pub room : 2 * n ≤ length left
+      pub fits : (q t : ℕ) → 1 ≤ q → q ≤ m → 1 ≤ t → t ≤ n → (hasBit (can left t) q ≡ true) ↔ PartFits n e w q t
+      pub right : Right n m e w left 0
+
+    -- N steps in all, and the table is right; or the budgets were less, and all spent
+    pub record Done (B K : ℕ) (r : PrepBack) : Type 0 where
+      pub enough : n ≤ B
+      pub steps : K ≡ n
+      pub stop : r .turn .stop ≡ Stop.End
+      pub table : PreparedRight (r .left)
+
+    pub record Short (B K : ℕ) (r : PrepBack) : Type 0 where
+      pub fewer : B < n
+      pub steps : K ≡ B
+      pub stop : r .turn .stop ≡ Stop.Budget
+
+    module _ (lent left : List ℕ) (p : Prep) (start : StartPromise n lent (Started.Fresh p) left) where
+      pub prepare-ends : {B K : ℕ} {r : PrepBack} → PrepTurns s tw (record { state = p; table = left }) B K r → Done B K r ⊎ Short B K r
+      prepare-ends {B} {K} {r} c = by (chain-ends Preparing prepared (prepStep e w m) (x .chain) n (record { next = 0; table = f .left }) refl (f .moves))
+        where
+          b : Begun lent left p
+          b = start-left lent left p start
+
+          fresh : Preparing
+          fresh = record { next = n; table = cleared (2 * n) lent }
+
+          long : length (cleared (2 * n) lent) ≡ length lent
+          long = clear-length (2 * n) lent
+
+          f : Finished n m e w (g .tree) n (cleared (2 * n) lent)
+          f = prep-moves n m e w (g .tree) n (cleared (2 * n) lent) (omega arith) (omega (arith, long, b .room)) (clear-right n m e w lent)
+
+          x : Ran (λ b from t. PrepPromise s tw (from .table) b (from .state) (t .turn) (t .left)) lend (λ t. t .turn .steps)
+              (λ x. x .turn .stop) reading prepared (prepStep e w m) (Ready n) (ready-kept n m e w) prep-runs {A = ℕ} (λ x. []) (λ x. [])
+              (λ r t i x. refl) fresh c
+          x = ran c fresh (λ j. record { next = (b .next-is) j; table = (b .table-is) j })
+              (record { next-high = omega arith; room = omega (arith, long, b .room) })
+
+          by : Reached Preparing prepared (prepStep e w m) n B (x .count) (record { next = 0; table = f .left }) (x .last)
+              ⊎ Underway Preparing prepared (prepStep e w m) n B (x .count) (record { next = 0; table = f .left }) (x .last) → Done B K r ⊎ Short B K r
+          by (inl q) =
+              let z : r .left ≡ f .left = ap (λ (y : Preparing). y .table) (x .back .state-same ∙ q .state) in
+              inl (record {
+                enough = q .enough;
+                steps = x .count-same ∙ q .steps;
+                stop = x .back .stop-same ∙ ap stopOf (q .halt);
+                table = rw z (record {
+                  room = omega (arith, f .long, long, b .room);
+                  fits = right-fits n m e w (g .tree) (g .twig) (f .left) (f .right);
+                  right = f .right;
+                });
+              })
+          by (inr q) = inr (record { fewer = q .short; steps = x .count-same ∙ q .steps; stop = x .back .stop-same ∙ ap stopOf (q .halt) })
+
+      -- demand 3: "the steps add up to n"; demand 2: "that the table is prepared is a conclusion"
+      pub prepare-n : {B K : ℕ} {r : PrepBack} → PrepTurns s tw (record { state = p; table = left }) B K r → r .turn .stop ≡ Stop.End
+          → (K ≡ n) × PreparedRight (r .left)
+      prepare-n {B} {K} {r} c h = by (prepare-ends c)
+        where
+          by : Done B K r ⊎ Short B K r → (K ≡ n) × PreparedRight (r .left)
+          by (inl x) = (x .steps, x .table)
+          by (inr x) = let q = sym h ∙ x .stop in let z : _≡_ {A = ℕ} 0 1 = cc in absurd (omega arith)
