@@ -10,3 +10,5 @@ pub mod Given
 pub mod Public
 pub mod Ruling
 pub mod Prepared
+pub mod Choosing
+pub mod Answered

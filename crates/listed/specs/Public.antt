@@ -44,6 +44,9 @@ module _ {S R P : Type 0} (Promise : ℕ → S → R → Type 0) (state : R → 
       pub told-same : told tell c ≡ told tells chain
       pub each-same : AllButLast (λ u. stop u ≡ Stop.Budget) c → AllButLast (λ t. stopOf (t .halt) ≡ Stop.Budget) chain
 
+    both : {a b l k : List A} → a ≡ b → l ≡ k → a ++ l ≡ b ++ k
+    both p q = ap₂ (λ (a l : List A). a ++ l) p q
+
     pub chain-ran : {st : S} {B K : ℕ} {r : R} (c : Chain S R Promise state steps st B K r) (p : P) → read st ≡ p → Inv p → Ran p c
     unfolding told
     chain-ran (one {st = st} {b = b} {r = r} h) p q i =
@@ -72,6 +75,6 @@ module _ {S R P : Type 0} (Promise : ℕ → S → R → Type 0) (state : R → 
           back = y .back;
           kept = y .kept;
           count-same = ap₂ (λ (a d : ℕ). a + d) (x .steps-same) (y .count-same);
-          told-same = ap₂ (λ (a l : List A). a ++ l) (tell-same r t k x) (y .told-same);
+          told-same = both (tell-same r t k x) (y .told-same);
           each-same = λ z. (sym (x .stop-same) ∙ z .0, y .each-same (z .1));
         }
