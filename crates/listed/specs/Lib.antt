@@ -12,3 +12,4 @@ pub mod Ruling
 pub mod Prepared
 pub mod Choosing
 pub mod Answered
+pub mod Saved

@@ -1,0 +1,124 @@
+-- The saved walk, with its sixteen images, mirrors the walk over the choices: their steps agree.
+--   byBit can          the test by a table's bits
+--   shown n w          the saved walk that stands for the walk w
+--   Small n w          its candidate is at most n+1
+--   Way                what holds of every walk on the way
+--   walk-mirrors       finished and step agree, and steps keep the way
+use Prim.Native.Nat.{ℕ, zero, suc, _+_, _-_, _≤_, _<_}
+use mathlib.Core.Path.{_≡_, refl, ap, _∙_, sym, subst}
+use mathlib.Core.Bool.{Bool, true, false, _&&_, _||_}
+use mathlib.Core.List.{List, [], _∷_}
+use native.Mathlib.Omega.{arith}
+use native.Mathlib.Decide.{decLe}
+use native.Mathlib.Numerals.{add-one}
+use lib.Dec.{leb, ltb, eqb}
+use lib.ListN.{length, getD, set, replicate}
+use borrow.Author.Tests.{eq-eqb, ne-eqb, le-leb, lt-leb, lt-ltb, le-ltb}
+use Rattle.turns.specs.Pick.{pick}
+use Rattle.turns.specs.Turn.{Next, moved, answered, refused, Step, on, found}
+use Rattle.trees.specs.Signature.{Entries}
+use Rattle.trees.specs.Facts.{Facts, Each}
+use Rattle.walks.specs.Walking as walks
+use Rattle.walks.specs.Walking.{Choices, walking, atAnswer, atEnd, walkDone, walkStep, try, backFrom, setTo}
+use Rattle.walks.specs.Answers.{Good, Fits}
+use Rattle.walks.specs.Plain.{InRange, plain-good, plain-rising, fits-inside}
+use Rattle.walks.specs.Ranges.{reached-least}
+use Rattle.walks.specs.Stepping as stepping
+use Rattle.walks.specs.Stepping.{Tried, step-walking, step-answer}
+use Rattle.walks.specs.Potential.{Bounded, Trying, OnTheWay}
+use Rattle.walks.specs.Falling.{after-answer, step-way}
+use Rattle.walks.specs.Room.{imageOf, roomOf, room-get, room-set, room-drop, image-zero, image-top, image-down}
+use Rattle.walks.specs.Mirror.{asNext, Mirrors}
+use Rattle.loose.specs.declared.Phase.{Phase}
+use Rattle.loose.specs.declared.Walk.{Walk}
+use Rattle.loose.specs.Masks.{hasBit}
+use Rattle.loose.specs.Walking as saved
+use Rattle.loose.specs.Walking.{image, place, at, endOf, badEnd, back, walkOn, stepOf, ended}
+use Rattle.listed.specs.Choosing.{parentOf, endAfter, choices, choices-plain, NodeFits, nodes-of}
+
+-- "can of entry c has the bit of k"
+abbrev pub byBit : (ℕ → ℕ) → ℕ → ℕ → Bool
+byBit can q c = hasBit (can c) q
+
+-- the saved walk that stands for a walk
+abbrev pub shown : ℕ → walks.Walk → Walk
+shown n (walking r c xs) = at (roomOf 16 xs) (suc (length xs)) c Phase.Walking
+shown n (atAnswer x xs) = at (roomOf 16 (x ∷ xs)) (suc (length xs)) x Phase.Answer
+shown n atEnd = at (roomOf 16 []) 1 (n + 1) Phase.Ended
+
+-- "c from 1 to n+1"
+abbrev pub Small : ℕ → walks.Walk → Type 0
+Small n (walking r c xs) = c ≤ n + 1
+Small n (atAnswer x xs) = x ≤ n
+Small n atEnd = Unit
+
+pub image-room : (xs : List ℕ) (q : ℕ) → length xs ≤ 16 → image (roomOf 16 xs) q ≡ imageOf xs q
+unfolding image
+image-room xs zero h = sym (image-zero xs)
+image-room xs (suc q) h = room-get 16 xs h q
+
+place-room : (xs : List ℕ) (c q : ℕ) → length xs < 16 → q ≡ suc (length xs) → place (roomOf 16 xs) q c ≡ roomOf 16 (c ∷ xs)
+unfolding place
+place-room xs c q h z = let k : q - 1 ≡ length xs = omega arith in rw k (room-set 16 c xs h)
+
+drop-room : (x : ℕ) (xs : List ℕ) (q : ℕ) → length xs < 16 → q ≡ suc (length xs) → place (roomOf 16 (x ∷ xs)) q 0 ≡ roomOf 16 xs
+unfolding place
+drop-room x xs q h z = let k : q - 1 ≡ length xs = omega arith in rw k (room-drop 16 x xs h)
+
+-- a saved walk by equal parts
+at-same : {l k : List ℕ} {q r c d : ℕ} (p : Phase) → l ≡ k → q ≡ r → c ≡ d → at l q c p ≡ at k r d p
+at-same p x y z = λ i. at (x i) (y i) (z i) p
+
+module _ (n m : ℕ) (e w : Entries) (tree : Facts n e) (twig : Facts m w) (small : m ≤ 16) (can : ℕ → ℕ)
+    (bound : Bounded (choices n e w (byBit can)) m n) where
+  abbrev ch : Choices
+  ch = choices n e w (byBit can)
+
+  -- a walk on its way, with its candidate in its range
+  pub record Way (s : walks.Walk) : Type 0 where
+    pub way : OnTheWay ch m s
+    pub least : Small n s
+
+  pub nodes : (z : List ℕ) → length z ≤ m → Good ch z → (q : ℕ) → 1 ≤ q → q ≤ length z → NodeFits n m e w tree twig (byBit can) z q
+  nodes z l g q a b = nodes-of n m e w tree twig (byBit can) z l (plain-good ch (choices-plain n e w (byBit can)) z .0 g) q a b
+
+  -- ---- the range of node k
+
+  module _ (r c : ℕ) (xs : List ℕ) (t : Trying ch m r c xs) where
+    room : length xs < 16
+    room = omega (arith, t .nodes)
+
+    end-same : (c : ℕ) → endOf n e w (shown n (walking r c xs)) ≡ endAfter n e w xs
+    unfolding endOf parentOf
+    end-same c = by xs (image-room xs (w .fa (suc (length xs))) (omega (arith, room)))
+      where
+        by : (ys : List ℕ) → image (roomOf 16 ys) (w .fa (suc (length ys))) ≡ imageOf ys (w .fa (suc (length ys)))
+            → pick (leb (suc (length ys)) 1) (n + 1) (e .ff (image (roomOf 16 ys) (w .fa (suc (length ys))))) ≡ endAfter n e w ys
+        by [] h = refl
+        by (y ∷ ys) h = rw (lt-leb (suc (suc (length ys))) 1 (omega arith), h)
+
+    -- on a tree its ff is never out of range
+    end-fine : (p : ℕ) (l : List ℕ) (q : ℕ) (f : Phase) → image l (w .fa (suc (length xs))) ≡ imageOf xs (w .fa (suc (length xs)))
+        → badEnd n e w (at l (suc (length xs)) q f) ≡ false
+    unfolding badEnd
+    end-fine p l q f h = by xs refl h
+      where
+        by : (ys : List ℕ) → xs ≡ ys → image l (w .fa (suc (length ys))) ≡ imageOf ys (w .fa (suc (length ys)))
+            → (ltb 1 (suc (length ys))
+              && (leb (e .ff (image l (w .fa (suc (length ys))))) (image l (w .fa (suc (length ys))))
+                || ltb (n + 1) (e .ff (image l (w .fa (suc (length ys))))))) ≡ false
+        by [] z k = refl
+        by (y ∷ ys) z k =
+            let o = ap length z in
+            let b : suc (suc (length ys)) ≤ m = omega (arith, t .nodes) in
+            let u : 1 ≤ w .fa (suc (suc (length ys))) = twig .inner (suc (suc (length ys))) (omega arith) b in
+            let v : w .fa (suc (suc (length ys))) < suc (suc (length ys)) = twig .each (suc (suc (length ys))) (omega arith) b .fa-high in
+            let i = nodes (y ∷ ys) (omega arith) (subst (Good ch) z (t .good)) (w .fa (suc (suc (length ys)))) u (omega arith) in
+            let j = tree .each (imageOf (y ∷ ys) (w .fa (suc (suc (length ys))))) (omega (arith, i .above)) (i .high) in
+            rw (k, lt-leb (e .ff (imageOf (y ∷ ys) (w .fa (suc (suc (length ys)))))) (imageOf (y ∷ ys) (w .fa (suc (suc (length ys))))) (j .ff-low),
+              le-ltb (n + 1) (e .ff (imageOf (y ∷ ys) (w .fa (suc (suc (length ys)))))) (j .ff-high))
+            (by-test (ltb 1 (suc (suc (length ys)))))
+          where
+            by-test : (b : Bool) → (b && (false || false)) ≡ false
+            by-test true = refl
+            by-test false = refl
