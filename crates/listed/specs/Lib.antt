@@ -13,3 +13,4 @@ pub mod Prepared
 pub mod Choosing
 pub mod Answered
 pub mod Saved
+pub mod Ranged

@@ -122,3 +122,126 @@ module _ (n m : ℕ) (e w : Entries) (tree : Facts n e) (twig : Facts m w) (smal
             by-test : (b : Bool) → (b && (false || false)) ≡ false
             by-test true = refl
             by-test false = refl
+
+    abbrev now : Walk
+    now = shown n (walking r c xs)
+
+    -- ---- the three cases of a step
+
+    walk-past : endAfter n e w xs ≤ c → walkOn n m e w can now ≡ back now
+    unfolding walkOn
+    walk-past l = rw (end-same c, le-leb (endAfter n e w xs) c l)
+
+    walk-hit : c < endAfter n e w xs → hasBit (can c) (suc (length xs)) ≡ true → walkOn n m e w can now ≡ saved.found m w now
+    unfolding walkOn
+    walk-hit l h = rw (end-same c, lt-leb (endAfter n e w xs) c l, h)
+
+    walk-miss : c < endAfter n e w xs → hasBit (can c) (suc (length xs)) ≡ false → walkOn n m e w can now ≡ saved.on now
+    unfolding walkOn
+    walk-miss l h = rw (end-same c, lt-leb (endAfter n e w xs) c l, h)
+
+  finish-same : (r c : ℕ) → n + 1 ≤ c → c ≤ n + 1 → back (shown n (walking r c [])) ≡ moved (shown n atEnd)
+  unfolding back
+  finish-same r c l h = ap (λ (x : Walk). moved x) (at-same Phase.Ended refl refl (omega arith))
+
+  back-same : (r c x : ℕ) (xs : List ℕ) → length xs < 15 → back (shown n (walking r c (x ∷ xs))) ≡ moved (shown n (walking (suc r) (suc x) xs))
+  unfolding back
+  back-same r c x xs l =
+      let k : suc (suc (length xs)) - 1 ≡ suc (length xs) = omega arith in
+      rw (lt-leb (suc (suc (length xs))) 1 (omega arith), k)
+      (ap (λ (x : Walk). moved x)
+      (at-same Phase.Walking (drop-room x xs (suc (length xs)) (omega arith) refl) refl
+      (add-one (image (roomOf 16 (x ∷ xs)) (suc (length xs)))
+      ∙ ap suc (image-room (x ∷ xs) (suc (length xs)) (omega arith) ∙ image-top x xs (suc (length xs)) refl))))
+
+  found-same : (c : ℕ) (xs : List ℕ) → suc (length xs) ≡ m → length xs < 16
+      → saved.found m w (shown n (walking 0 c xs)) ≡ answered (shown n (atAnswer c xs))
+  unfolding saved.found
+  found-same c xs k l =
+      rw (eq-eqb (suc (length xs)) m k)
+      (ap (λ (x : Walk). answered x) (at-same Phase.Answer (place-room xs c (suc (length xs)) l refl) refl refl))
+
+  set-same : (r c : ℕ) (xs : List ℕ) → suc (length xs) < m → length xs < 15
+      → saved.found m w (shown n (walking (suc r) c xs)) ≡ moved (shown n (walking r (suc (parentOf w (c ∷ xs))) (c ∷ xs)))
+  unfolding saved.found parentOf
+  set-same r c xs k l =
+      let p = place-room xs c (suc (length xs)) (omega arith) refl in
+      let o : suc (length xs) + 1 ≡ suc (suc (length xs)) = omega arith in
+      rw (ne-eqb (suc (length xs)) m (λ z. omega arith), o, p)
+      (ap (λ (x : Walk). moved x)
+      (at-same Phase.Walking refl refl
+      (add-one (image (roomOf 16 (c ∷ xs)) (w .fa (suc (suc (length xs)))))
+      ∙ ap suc (image-room (c ∷ xs) (w .fa (suc (suc (length xs)))) (omega arith)))))
+
+  tried-same : {r c : ℕ} {xs : List ℕ} {y : Next walks.Walk} → Trying ch m r c xs → c ≤ n + 1 → Tried ch r c xs y
+      → walkOn n m e w can (shown n (walking r c xs)) ≡ asNext (shown n) y
+  tried-same t h (stepping.finish {r = r} {c = c} l) = walk-past r c [] t l ∙ finish-same r c l h
+  tried-same t h (stepping.back {r = r} {c = c} {x = x} {xs = xs} l) =
+      walk-past r c (x ∷ xs) t l ∙ back-same r c x xs (omega (arith, t .nodes))
+  tried-same t h (stepping.found {c = c} {xs = xs} l f) =
+      walk-hit 0 c xs t l f ∙ found-same c xs (omega (arith, t .nodes)) (omega (arith, t .nodes))
+  tried-same t h (stepping.set {r = r} {c = c} {xs = xs} l f) =
+      walk-hit (suc r) c xs t l f ∙ set-same r c xs (omega (arith, t .nodes)) (omega (arith, t .nodes))
+  tried-same t h (stepping.miss {r = r} {c = c} {xs = xs} l f) =
+      walk-miss r c xs t l f ∙ ap (λ (x : Walk). moved x) (at-same Phase.Walking refl refl (add-one c))
+
+  -- ---- the whole step
+
+  step-same : (s : walks.Walk) → Way s → walkDone s ≡ false → stepOf n m e w can (shown n s) ≡ asNext (shown n) (walkStep ch s)
+  unfolding stepOf
+  step-same (walking r c xs) i d =
+      rw (end-fine r c xs (i .way) 0 (roomOf 16 xs) c Phase.Walking (image-room xs (w .fa (suc (length xs))) (omega (arith, i .way .nodes))))
+      (tried-same (i .way) (i .least) (step-walking ch r c xs))
+  step-same (atAnswer x xs) i d =
+      let t = after-answer ch m x xs (i .way) in
+      let k : suc (length xs) ≡ m = i .way .0 in
+      let f : w .fa (suc (length xs)) < suc (length xs) = twig .each (suc (length xs)) (omega arith) (omega arith) .fa-high in
+      let j : image (roomOf 16 (x ∷ xs)) (w .fa (suc (length xs))) ≡ imageOf xs (w .fa (suc (length xs)))
+            = image-room (x ∷ xs) (w .fa (suc (length xs))) (omega arith) ∙ image-down x xs (w .fa (suc (length xs))) (omega arith) in
+      let g : saved.letGo (shown n (atAnswer x xs)) ≡ shown n (walking 0 (suc x) xs)
+            = at-same Phase.Walking (drop-room x xs (suc (length xs)) (omega arith) refl) refl
+              (add-one (image (roomOf 16 (x ∷ xs)) (suc (length xs)))
+              ∙ ap suc (image-room (x ∷ xs) (suc (length xs)) (omega arith) ∙ image-top x xs (suc (length xs)) refl)) in
+      rw (end-fine 0 (suc x) xs t 0 (roomOf 16 (x ∷ xs)) x Phase.Answer j)
+      (ap (walkOn n m e w can) g ∙ tried-same t (omega (arith, i .least)) (step-answer ch x xs))
+  step-same atEnd i d = let z : _≡_ {A = ℕ} 0 1 = cc in absurd (omega arith)
+
+  -- ---- candidates stay in their range
+
+  abbrev Smalls : Next walks.Walk → Type 0
+  Smalls (moved to) = Small n to
+  Smalls (answered to) = Small n to
+  Smalls (refused number entry) = Unit
+
+  tried-small : {r c : ℕ} {xs : List ℕ} {y : Next walks.Walk} → Trying ch m r c xs → Tried ch r c xs y → Smalls y
+  unfolding parentOf
+  tried-small t (stepping.finish l) = tt
+  tried-small t (stepping.back {x = x} {xs = xs} l) =
+      let b = bound .high xs (t .good .1) (omega (arith, t .nodes)) in omega (arith, t .good .0 .below)
+  tried-small t (stepping.found {c = c} {xs = xs} l f) = let b = bound .high xs (t .good) (omega (arith, t .nodes)) in omega arith
+  tried-small t (stepping.set {r = r} {c = c} {xs = xs} l f) =
+      let z = c ∷ xs in
+      let g : Good ch z = (record { reached = t .from; below = l; passes = f }, t .good) in
+      let k = suc (suc (length xs)) in
+      let b : k ≤ m = omega (arith, t .nodes) in
+      let u : 1 ≤ w .fa k = twig .inner k (omega arith) b in
+      let v : w .fa k < k = twig .each k (omega arith) b .fa-high in
+      omega (arith, nodes z (omega arith) g (w .fa k) u (omega arith) .high)
+  tried-small t (stepping.miss {c = c} {xs = xs} l f) = let b = bound .high xs (t .good) (omega (arith, t .nodes)) in omega arith
+
+  step-small : (s : walks.Walk) → OnTheWay ch m s → Smalls (walkStep ch s)
+  step-small (walking r c xs) t = tried-small t (step-walking ch r c xs)
+  step-small (atAnswer x xs) t = tried-small (after-answer ch m x xs t) (step-answer ch x xs)
+  step-small atEnd t = unfold walkStep in tt
+
+  way-kept : (s to : walks.Walk) → Way s → Step walks.Walk walkDone (walkStep ch) s to → Way to
+  way-kept s to i (on h f) = record { way = step-way ch m s to (on h f) (i .way); least = subst Smalls f (step-small s (i .way)) }
+  way-kept s to i (found h f) = record { way = step-way ch m s to (found h f) (i .way); least = subst Smalls f (step-small s (i .way)) }
+
+  done-same : (s : walks.Walk) → ended (shown n s) ≡ walkDone s
+  done-same (walking r c xs) = refl
+  done-same (atAnswer x xs) = refl
+  done-same atEnd = refl
+
+  pub walk-mirrors : Mirrors (shown n) Way walkDone (walkStep ch) ended (stepOf n m e w can)
+  walk-mirrors = record { done-same = λ s i. done-same s; step-same = step-same; keeps = way-kept }
