@@ -14,3 +14,5 @@ pub mod Choosing
 pub mod Answered
 pub mod Saved
 pub mod Ranged
+pub mod Walked
+pub mod Exactly

@@ -33,7 +33,7 @@ use Rattle.listed.specs.Rightly.{Right, clear-right, right-fits}
 use Rattle.listed.specs.Ruling.{Finished, prep-moves, Ready, ready-kept, fault-room}
 use Rattle.listed.specs.Questions.{Accepted, Lent, PrepBack, lend, PrepTurns}
 use Rattle.listed.specs.Given.{Grounds, accepted-grounds, begun-runs}
-use Rattle.listed.specs.Public.{Back, Ran, chain-ran}
+use Rattle.listed.specs.Public.{Back, turn-kept, Ran, chain-ran}
 
 -- ---- chains of public turns
 
@@ -71,12 +71,15 @@ module _ (s tw : List ℕ) where
           stop-same = told-halt (r .turn .stop) (t .halt) (k .stop);
         }
 
+    ready-stays : (b : ℕ) (p : Preparing) → Ready n p → Ready n (turn Preparing prepared (prepStep e w m) b p .state)
+    ready-stays = turn-kept prepared (prepStep e w m) (Ready n) (ready-kept n m e w)
+
     ran : {st : Lent} {B K : ℕ} {r : PrepBack} (c : PrepTurns s tw st B K r) (p : Preparing) → reading st ≡ p → Ready n p
         → Ran (λ b from t. PrepPromise s tw (from .table) b (from .state) (t .turn) (t .left)) lend (λ t. t .turn .steps) (λ x. x .turn .stop)
-          reading prepared (prepStep e w m) (Ready n) (ready-kept n m e w) prep-runs {A = ℕ} (λ x. []) (λ x. []) (λ r t i x. refl) p c
+          reading prepared (prepStep e w m) (Ready n) ready-stays prep-runs {A = ℕ} (λ x. []) (λ x. []) (λ r t i x. refl) p c
     ran c p q i =
         chain-ran (λ b from t. PrepPromise s tw (from .table) b (from .state) (t .turn) (t .left)) lend (λ t. t .turn .steps) (λ x. x .turn .stop)
-        reading prepared (prepStep e w m) (Ready n) (ready-kept n m e w) prep-runs {A = ℕ} (λ x. []) (λ x. []) (λ r t i x. refl) c p q i
+        reading prepared (prepStep e w m) (Ready n) ready-stays prep-runs {A = ℕ} (λ x. []) (λ x. []) (λ r t i x. refl) c p q i
 
     -- what a start call that worked left
     record Begun (lent left : List ℕ) (p : Prep) : Type 0 where
@@ -131,7 +134,7 @@ module _ (s tw : List ℕ) where
           f = prep-moves n m e w (g .tree) n (cleared (2 * n) lent) (omega arith) (omega (arith, long, b .room)) (clear-right n m e w lent)
 
           x : Ran (λ b from t. PrepPromise s tw (from .table) b (from .state) (t .turn) (t .left)) lend (λ t. t .turn .steps)
-              (λ x. x .turn .stop) reading prepared (prepStep e w m) (Ready n) (ready-kept n m e w) prep-runs {A = ℕ} (λ x. []) (λ x. [])
+              (λ x. x .turn .stop) reading prepared (prepStep e w m) (Ready n) ready-stays prep-runs {A = ℕ} (λ x. []) (λ x. [])
               (λ r t i x. refl) fresh c
           x = ran c fresh (λ j. record { next = (b .next-is) j; table = (b .table-is) j })
               (record { next-high = omega arith; room = omega (arith, long, b .room) })

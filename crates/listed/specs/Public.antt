@@ -1,5 +1,6 @@
 -- Chains of public turns are chains of turns of the written rule, as long as what a turn judges before its first step lets it run.
 --   Back r t        what a public turn hands back is the turn t of the rule
+--   turn-kept       what every step keeps, a turn keeps
 --   Ran c           the chain of the rule that a chain of public turns is: the same budgets, steps, stops, and the same told
 --   chain-ran       there is one
 use Prim.Native.Nat.{ℕ, _+_}
@@ -19,18 +20,20 @@ pub record Back {S R P : Type 0} (state : R → S) (steps : R → ℕ) (stop : R
   pub steps-same : steps r ≡ t .steps
   pub stop-same : stop r ≡ stopOf (t .halt)
 
-module _ {S R P : Type 0} (Promise : ℕ → S → R → Type 0) (state : R → S) (steps : R → ℕ) (stop : R → Stop) (read : S → P)
-    (done : P → Bool) (step : P → Next P) (Inv : P → Type 0) (keeps : (a b : P) → Inv a → Step P done step a b → Inv b)
-    (runs : (b : ℕ) (st : S) (r : R) → Inv (read st) → Promise b st r → Back state steps stop read r (turn P done step b (read st))) where
-  abbrev Is : R → Turned P → Type 0
-  Is r t = Back state steps stop read r t
-
+-- what every step keeps, a turn keeps
+module _ {P : Type 0} (done : P → Bool) (step : P → Next P) (Inv : P → Type 0) (keeps : (a b : P) → Inv a → Step P done step a b → Inv b) where
   steps-kept : {k : ℕ} {a b : P} → Inv a → Steps P done step k a b → Inv b
   steps-kept i none = i
   steps-kept i (then {st = a} {mid = b} x m) = steps-kept (keeps a b i x) m
 
   pub turn-kept : (b : ℕ) (p : P) → Inv p → Inv (turn P done step b p .state)
   turn-kept b p i = steps-kept i (counted P done step b p)
+
+module _ {S R P : Type 0} (Promise : ℕ → S → R → Type 0) (state : R → S) (steps : R → ℕ) (stop : R → Stop) (read : S → P)
+    (done : P → Bool) (step : P → Next P) (Inv : P → Type 0) (stays : (b : ℕ) (p : P) → Inv p → Inv (turn P done step b p .state))
+    (runs : (b : ℕ) (st : S) (r : R) → Inv (read st) → Promise b st r → Back state steps stop read r (turn P done step b (read st))) where
+  abbrev Is : R → Turned P → Type 0
+  Is r t = Back state steps stop read r t
 
   module _ {A : Type 0} (tell : R → List A) (tells : Turned P → List A)
       (tell-same : (r : R) (t : Turned P) → Inv (t .state) → Is r t → tell r ≡ tells t) where
@@ -52,7 +55,7 @@ module _ {S R P : Type 0} (Promise : ℕ → S → R → Type 0) (state : R → 
     chain-ran (one {st = st} {b = b} {r = r} h) p q i =
         let t = turn P done step b p in
         let x : Is r t = subst (λ (z : P). Is r (turn P done step b z)) q (runs b st r (subst Inv (sym q) i) h) in
-        let k = turn-kept b p i in
+        let k = stays b p i in
         record {
           last = t;
           count = t .steps;
@@ -66,7 +69,7 @@ module _ {S R P : Type 0} (Promise : ℕ → S → R → Type 0) (state : R → 
     chain-ran (more {st = st} {b = b} {B = B} {K = K} {r = r} h c) p q i =
         let t = turn P done step b p in
         let x : Is r t = subst (λ (z : P). Is r (turn P done step b z)) q (runs b st r (subst Inv (sym q) i) h) in
-        let k = turn-kept b p i in
+        let k = stays b p i in
         let y = chain-ran c (t .state) (x .state-same) k in
         record {
           last = y .last;
