@@ -16,3 +16,4 @@ pub mod Saved
 pub mod Ranged
 pub mod Walked
 pub mod Exactly
+pub mod Cases

@@ -1,0 +1,163 @@
+-- Three trees with a twig each, prepared: no premise of the theorems is empty, and the wrong programs are tried on them.
+--   five, oneOne         Five, all named 1, and the twig 1(1)
+--   four, twoThreeFour   entries 1,4,5,0; 2,2,4,1; 3,1,4,2; 4,3,5,1 and the twig 2(3,4), which has no answer
+--   ten, eight           Ten, and the twig 8(9,10), which has one answer
+--   prepBack, walkBack   what the code hands back for a turn of the rule
+--   prep-handed, walk-handed   that is what the promise asks
+--   five-accepted, …     each signature and twig is accepted
+--   five-prepared, …     and prepared: Five in two turns, the others in one
+use Prim.Native.Nat.{ℕ, _+_, _*_}
+use mathlib.Core.Path.{_≡_, refl}
+use mathlib.Core.Bool.{Bool, true, false}
+use mathlib.Core.List.{List, [], _∷_}
+use lib.ListN.{length, replicate}
+use Rattle.turns.specs.Turn.{Halt, end, Turned, run}
+use Rattle.turns.specs.Chains.{Chain, one, more}
+use Rattle.trees.specs.Signature.{cell}
+use Rattle.checking.specs.declared.Kind.{Kind}
+use Rattle.checking.specs.declared.Stop.{Stop}
+use Rattle.checking.specs.declared.Verdict.{Verdict}
+use Rattle.checking.specs.Rule as check
+use Rattle.checking.specs.Turn.{turnWithin, lengthFault}
+use Rattle.checking.specs.Whole.{WholePromise}
+use Rattle.checked.specs.Apart.{stopOf, told-stop}
+use Rattle.checked.specs.Yields.{entries}
+use Rattle.loose.specs.declared.Prep.{Prep}
+use Rattle.loose.specs.declared.PrepTurn.{PrepTurn}
+use Rattle.loose.specs.declared.Started.{Started}
+use Rattle.loose.specs.declared.Walk.{Walk}
+use Rattle.loose.specs.declared.WalkTurn.{WalkTurn}
+use Rattle.loose.specs.Masks.{every, hasBit, mask, put}
+use Rattle.loose.specs.Given.{givenOf, ready, begun}
+use Rattle.loose.specs.Preparing.{Preparing, passes, childrenIn, stands, canOf, badParent, written, joined, stepTable, prepStep}
+use Rattle.loose.specs.PrepTurn.{cleared, startFault, StartPromise, prepAt, preparing, prepTurnOf, PrepHanded}
+use Rattle.loose.specs.WalkTurn.{walkTurnOf, WalkHanded}
+use Rattle.listed.specs.Questions.{Accepted, Lent, PrepBack, lend, PrepTurns, Prepared, WalkTurns}
+
+-- ---- what the code hands back
+
+abbrev pub prepBack : Turned Preparing → PrepBack
+prepBack t = record { turn = record { state = prepAt (t .state .next); steps = t .steps; stop = stopOf (t .halt) }; left = t .state .table }
+
+pub prep-handed : (t : Turned Preparing) → PrepHanded (prepBack t .turn) (prepBack t .left) t
+prep-handed t = record { state = refl; steps = refl; stop = told-stop (t .halt); leaves = refl }
+
+abbrev pub walkBack : Turned Walk → WalkTurn
+walkBack t = record { walk = t .state; steps = t .steps; stop = stopOf (t .halt) }
+
+pub walk-handed : (t : Turned Walk) → WalkHanded (walkBack t) t
+walk-handed t = record { walk = refl; steps = refl; stop = told-stop (t .halt) }
+
+-- ---- the trees and the twigs
+
+abbrev pub five : List ℕ
+five = 1 ∷ 5 ∷ 6 ∷ 0 ∷ 1 ∷ 1 ∷ 3 ∷ 1 ∷ 1 ∷ 4 ∷ 6 ∷ 1 ∷ 1 ∷ 2 ∷ 5 ∷ 3 ∷ 1 ∷ 3 ∷ 6 ∷ 3 ∷ []
+
+abbrev pub oneOne : List ℕ
+oneOne = 1 ∷ 2 ∷ 3 ∷ 0 ∷ 1 ∷ 1 ∷ 3 ∷ 1 ∷ []
+
+abbrev pub four : List ℕ
+four = 1 ∷ 4 ∷ 5 ∷ 0 ∷ 2 ∷ 2 ∷ 4 ∷ 1 ∷ 3 ∷ 1 ∷ 4 ∷ 2 ∷ 4 ∷ 3 ∷ 5 ∷ 1 ∷ []
+
+abbrev pub twoThreeFour : List ℕ
+twoThreeFour = 2 ∷ 3 ∷ 4 ∷ 0 ∷ 3 ∷ 1 ∷ 3 ∷ 1 ∷ 4 ∷ 2 ∷ 4 ∷ 1 ∷ []
+
+abbrev pub ten : List ℕ
+ten =
+    1 ∷ 10 ∷ 11 ∷ 0 ∷ 2 ∷ 5 ∷ 7 ∷ 1 ∷ 3 ∷ 3 ∷ 6 ∷ 2 ∷ 4 ∷ 1 ∷ 5 ∷ 3 ∷ 5 ∷ 2 ∷ 6 ∷ 3 ∷ 7 ∷ 4 ∷ 7 ∷ 2 ∷ 6 ∷ 9 ∷ 11 ∷ 1
+    ∷ 8 ∷ 8 ∷ 11 ∷ 7 ∷ 9 ∷ 6 ∷ 10 ∷ 8 ∷ 10 ∷ 7 ∷ 11 ∷ 8 ∷ []
+
+abbrev pub eight : List ℕ
+eight = 8 ∷ 3 ∷ 4 ∷ 0 ∷ 9 ∷ 1 ∷ 3 ∷ 1 ∷ 10 ∷ 2 ∷ 4 ∷ 1 ∷ []
+
+-- ---- accepted
+
+pub five-accepted : Accepted five oneOne
+unfolding turnWithin lengthFault check.inRange run check.stepOf check.closeOf check.nameless check.secondRoot check.accepted cell
+five-accepted = record { data-tree = refl; twig = refl }
+
+pub four-accepted : Accepted four twoThreeFour
+unfolding turnWithin lengthFault check.inRange run check.stepOf check.closeOf check.nameless check.secondRoot check.accepted cell
+four-accepted = record { data-tree = refl; twig = refl }
+
+pub ten-accepted : Accepted ten eight
+unfolding turnWithin lengthFault check.inRange run check.stepOf check.closeOf check.nameless check.secondRoot check.accepted cell
+ten-accepted = record { data-tree = refl; twig = refl }
+
+-- ---- prepared
+
+-- what a turn of preparing hands back: the next entry, the steps, the stop and the table
+abbrev pub back : ℕ → ℕ → Stop → List ℕ → PrepBack
+back t k stop table = record { turn = record { state = prepAt t; steps = k; stop = stop }; left = table }
+
+-- the tables that preparing leaves, the number beyond 2×n as it was lent
+abbrev pub fiveTable : List ℕ
+fiveTable = 3 ∷ 3 ∷ 2 ∷ 0 ∷ 3 ∷ 2 ∷ 2 ∷ 0 ∷ 2 ∷ 0 ∷ 7 ∷ []
+
+abbrev pub fourTable : List ℕ
+fourTable = 0 ∷ 6 ∷ 0 ∷ 2 ∷ 2 ∷ 0 ∷ 4 ∷ 0 ∷ 7 ∷ []
+
+abbrev pub tenTable : List ℕ
+tenTable = 0 ∷ 7 ∷ 0 ∷ 0 ∷ 0 ∷ 0 ∷ 0 ∷ 0 ∷ 0 ∷ 0 ∷ 0 ∷ 0 ∷ 0 ∷ 7 ∷ 1 ∷ 6 ∷ 2 ∷ 0 ∷ 4 ∷ 0 ∷ 7 ∷ []
+
+-- a lent table need not be empty, and may be longer than 2×n
+abbrev pub lentFor : ℕ → List ℕ
+lentFor n = replicate (2 * n + 1) 7
+
+abbrev pub clearedFor : ℕ → List ℕ
+clearedFor n = cleared (2 * n) (lentFor n)
+
+pub five-start : StartPromise 5 (lentFor 5) (Started.Fresh (prepAt 5)) (clearedFor 5)
+unfolding startFault cleared
+five-start = record { answer = refl; leaves = refl }
+
+-- two turns, of 2 steps and of at most 9
+pub five-turns : PrepTurns five oneOne (record { state = prepAt 5; table = clearedFor 5 }) 11 5 (back 0 3 Stop.End fiveTable)
+unfolding begun ready givenOf turnWithin lengthFault check.inRange run check.stepOf check.closeOf check.nameless check.secondRoot check.accepted cell
+    every hasBit mask put passes childrenIn stands canOf badParent written joined stepTable prepStep cleared
+five-turns =
+    more {b = 2} {r = back 3 2 Stop.Budget (0 ∷ 0 ∷ 0 ∷ 0 ∷ 0 ∷ 2 ∷ 2 ∷ 0 ∷ 2 ∷ 0 ∷ 7 ∷ [])} (record { state = refl; steps = refl; stop = refl; leaves = refl })
+    (one {b = 9} (record { state = refl; steps = refl; stop = refl; leaves = refl }))
+
+pub five-prepared : Prepared five oneOne fiveTable
+five-prepared = record {
+  lent = lentFor 5;
+  cleared = clearedFor 5;
+  state = prepAt 5;
+  start = five-start;
+  budgets = 11;
+  steps = 5;
+  last = back 0 3 Stop.End fiveTable .turn;
+  turns = five-turns;
+  ended = refl;
+}
+
+pub four-prepared : Prepared four twoThreeFour fourTable
+unfolding startFault begun ready givenOf turnWithin lengthFault check.inRange run check.stepOf check.closeOf check.nameless check.secondRoot
+    check.accepted cell every hasBit mask put passes childrenIn stands canOf badParent written joined stepTable prepStep cleared
+four-prepared = record {
+  lent = lentFor 4;
+  cleared = clearedFor 4;
+  state = prepAt 4;
+  start = record { answer = refl; leaves = refl };
+  budgets = 4;
+  steps = 4;
+  last = back 0 4 Stop.End fourTable .turn;
+  turns = one {b = 4} (record { state = refl; steps = refl; stop = refl; leaves = refl });
+  ended = refl;
+}
+
+pub ten-prepared : Prepared ten eight tenTable
+unfolding startFault begun ready givenOf turnWithin lengthFault check.inRange run check.stepOf check.closeOf check.nameless check.secondRoot
+    check.accepted cell every hasBit mask put passes childrenIn stands canOf badParent written joined stepTable prepStep cleared
+ten-prepared = record {
+  lent = lentFor 10;
+  cleared = clearedFor 10;
+  state = prepAt 10;
+  start = record { answer = refl; leaves = refl };
+  budgets = 99;
+  steps = 10;
+  last = back 0 10 Stop.End tenTable .turn;
+  turns = one {b = 99} (record { state = refl; steps = refl; stop = refl; leaves = refl });
+  ended = refl;
+}
