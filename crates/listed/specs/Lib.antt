@@ -17,3 +17,4 @@ pub mod Ranged
 pub mod Walked
 pub mod Exactly
 pub mod Cases
+pub mod Worked

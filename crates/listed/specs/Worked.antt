@@ -1,0 +1,83 @@
+-- Each theorem used once, on the cases of document 01: no premise is empty.
+--   five-steps, five-bits     preparing Five for 1(1) took 5 steps; the root fits at 1 and not at 2
+--   five-chain, five-listed   seven turns tell the six answers of 1(1) on Five, in 14 steps, and those are all loose answers
+--   five-within               each of them within 2×m×n+1 = 21 steps
+--   ten-listed, four-listed   8(9,10) on Ten has just the answer 8 9 10; 2(3,4) on the four entries has none
+--   star-count                1(1,1,1) on Five has 72
+use Prim.Native.Nat.{ℕ, _+_, _*_, _≤_, _<_}
+use mathlib.Core.Path.{_≡_, refl, _∙_, sym}
+use mathlib.Core.Logic.{_⊎_, inl, inr}
+use mathlib.Core.Bool.{Bool, true, false}
+use mathlib.Core.List.{List, [], _∷_, map, flatMap}
+use native.Mathlib.Omega.{arith}
+use lib.ListN.{length, replicate}
+use Rattle.turns.specs.Turn.{run}
+use Rattle.turns.specs.Chains.{Chain, one, more}
+use Rattle.trees.specs.Signature.{cell, entriesOf, width}
+use Rattle.walks.specs.Walking.{answersFrom, passing, passingOf}
+use Rattle.walks.specs.Room.{imageOf}
+use Rattle.walks.specs.Chained.{told, AllButLast}
+use Rattle.checking.specs.declared.Stop.{Stop}
+use Rattle.checking.specs.Rule as check
+use Rattle.checking.specs.Turn.{turnWithin, lengthFault}
+use Rattle.loose.specs.declared.Phase.{Phase}
+use Rattle.loose.specs.declared.WalkTurn.{WalkTurn}
+use Rattle.loose.specs.Masks.{every, hasBit, can}
+use Rattle.loose.specs.Given.{givenOf, ready, begun}
+use Rattle.loose.specs.Preparing.{passes}
+use Rattle.loose.specs.PrepTurn.{prepAt}
+use Rattle.loose.specs.Walking.{image, place, at, fresh, imageFits, phaseFits, inRange, endOf, badEnd, back, found, walkOn, stepOf}
+use Rattle.loose.specs.WalkTurn.{walkTurnOf}
+use Rattle.listed.specs.Loose.{PartFits}
+use Rattle.listed.specs.Questions.{WalkTurns, tellOf, OnTheWay, start, handed}
+use Rattle.listed.specs.Given.{accepted-grounds}
+use Rattle.listed.specs.Prepared.{prepare-n, PreparedRight}
+use Rattle.listed.specs.Choosing.{looseAnswers, parentOf}
+use Rattle.listed.specs.Exactly.{allLoose, Listed, Within, loose-exactly, walk-within}
+use Rattle.listed.specs.Cases.{walk-handed, five, oneOne, four, twoThreeFour, ten, eight, five-accepted, four-accepted, ten-accepted}
+use Rattle.listed.specs.Cases.{fiveTable, fourTable, tenTable, lentFor, clearedFor, five-start, five-turns, five-prepared, four-prepared, ten-prepared}
+
+-- ---- preparing
+
+pub five-right : (_≡_ {A = ℕ} 5 5) × PreparedRight five oneOne (accepted-grounds five oneOne five-accepted) fiveTable
+five-right = prepare-n five oneOne (accepted-grounds five oneOne five-accepted) (lentFor 5) (clearedFor 5) (prepAt 5) five-start five-turns refl
+
+-- the twig 1(1) fits with its root at entry 1, and not with its root at entry 2, which has nothing below it
+pub five-fits : PartFits 5 (entriesOf width five) (entriesOf width oneOne) 1 1
+unfolding hasBit cell
+five-fits = five-right .1 .fits 1 1 (omega arith) (omega arith) (omega arith) (omega arith) .0 refl
+
+no-bit : hasBit (can fiveTable 2) 1 ≡ false
+unfolding hasBit cell
+no-bit = refl
+
+pub five-not : PartFits 5 (entriesOf width five) (entriesOf width oneOne) 1 2 → ⊥
+five-not p =
+    let h = five-right .1 .fits 1 2 (omega arith) (omega arith) (omega arith) (omega arith) .1 p in
+    let q = sym no-bit ∙ h in let z : _≡_ {A = ℕ} 0 1 = cc in omega arith
+
+-- ---- walking
+
+-- a walk that has ended on a tree of n entries, after k steps of its last turn
+abbrev over : ℕ → ℕ → WalkTurn
+over n k = record { walk = at (replicate 16 0) 1 (n + 1) Phase.Ended; steps = k; stop = Stop.End }
+
+pub five-chain : WalkTurns five oneOne fiveTable fresh 63 14 (over 5 4)
+unfolding begun ready givenOf turnWithin lengthFault check.inRange run check.stepOf check.closeOf check.nameless check.secondRoot check.accepted cell
+    every hasBit image place imageFits phaseFits inRange endOf badEnd back found walkOn stepOf
+five-chain =
+    more {b = 9} (walk-handed _) (more {b = 9} (walk-handed _) (more {b = 9} (walk-handed _) (more {b = 9} (walk-handed _)
+    (more {b = 9} (walk-handed _) (more {b = 9} (walk-handed _) (one {b = 9} (walk-handed _)))))))
+
+-- "1 2, 1 3, 1 4, 1 5, 3 4, 3 5, end 6 14"
+abbrev pub sixAnswers : List (List ℕ)
+sixAnswers = (1 ∷ 2 ∷ []) ∷ (1 ∷ 3 ∷ []) ∷ (1 ∷ 4 ∷ []) ∷ (1 ∷ 5 ∷ []) ∷ (3 ∷ 4 ∷ []) ∷ (3 ∷ 5 ∷ []) ∷ []
+
+pub five-told : told (tellOf 2) five-chain ≡ sixAnswers
+unfolding told five-chain begun ready givenOf turnWithin lengthFault check.inRange run check.stepOf check.closeOf check.nameless check.secondRoot
+    check.accepted cell every hasBit image place imageFits phaseFits inRange endOf badEnd back found walkOn stepOf
+five-told = refl
+
+-- all loose answers, by loose-exactly
+pub five-listed : allLoose five oneOne ≡ sixAnswers
+five-listed = sym (loose-exactly five oneOne five-accepted fiveTable five-prepared five-chain .whole refl) ∙ five-told
