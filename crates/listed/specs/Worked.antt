@@ -81,3 +81,66 @@ five-told = refl
 -- all loose answers, by loose-exactly
 pub five-listed : allLoose five oneOne ≡ sixAnswers
 five-listed = sym (loose-exactly five oneOne five-accepted fiveTable five-prepared five-chain .whole refl) ∙ five-told
+
+-- the same by computing the list
+pub five-computed : allLoose five oneOne ≡ sixAnswers
+unfolding looseAnswers answersFrom passing passingOf flatMap parentOf imageOf passes cell
+five-computed = refl
+
+-- ---- the limit: 2×m×n+1 = 21 steps from the start, and from an answer
+
+-- at the first answer, after k steps of a turn
+abbrev firstAnswer : ℕ → WalkTurn
+firstAnswer k = record { walk = at (1 ∷ 2 ∷ replicate 14 0) 2 2 Phase.Answer; steps = k; stop = Stop.Answer }
+
+-- two turns from the start to the first answer, and two from there to the second
+pub five-start-chain : WalkTurns five oneOne fiveTable fresh 22 2 (firstAnswer 1)
+unfolding begun ready givenOf turnWithin lengthFault check.inRange run check.stepOf check.closeOf check.nameless check.secondRoot check.accepted cell
+    every hasBit image place imageFits phaseFits inRange endOf badEnd back found walkOn stepOf
+five-start-chain = more {b = 1} (walk-handed _) (one {b = 21} (walk-handed _))
+
+pub five-from-start : Within five oneOne 22 2 (firstAnswer 1)
+unfolding five-start-chain
+five-from-start = walk-within five oneOne five-accepted fiveTable five-prepared start five-start-chain (refl, tt)
+
+pub five-next-chain : WalkTurns five oneOne fiveTable (firstAnswer 1 .walk) 21 1
+    (record { walk = at (1 ∷ 3 ∷ replicate 14 0) 2 3 Phase.Answer; steps = 1; stop = Stop.Answer })
+unfolding begun ready givenOf turnWithin lengthFault check.inRange run check.stepOf check.closeOf check.nameless check.secondRoot check.accepted cell
+    every hasBit image place imageFits phaseFits inRange endOf badEnd back found walkOn stepOf
+five-next-chain = more {b = 0} (walk-handed _) (one {b = 21} (walk-handed _))
+
+pub five-from-answer : Within five oneOne 21 1 (record { walk = at (1 ∷ 3 ∷ replicate 14 0) 2 3 Phase.Answer; steps = 1; stop = Stop.Answer })
+unfolding five-next-chain
+five-from-answer = walk-within five oneOne five-accepted fiveTable five-prepared (handed five-start-chain) five-next-chain (refl, tt)
+
+-- ---- the starred cases
+
+-- "Twig 8(9,10) on Ten": one answer
+pub ten-chain : WalkTurns ten eight tenTable fresh 198 17 (over 10 6)
+unfolding begun ready givenOf turnWithin lengthFault check.inRange run check.stepOf check.closeOf check.nameless check.secondRoot check.accepted cell
+    every hasBit image place imageFits phaseFits inRange endOf badEnd back found walkOn stepOf
+ten-chain = more {b = 99} (walk-handed _) (one {b = 99} (walk-handed _))
+
+pub ten-told : told (tellOf 3) ten-chain ≡ (8 ∷ 9 ∷ 10 ∷ []) ∷ []
+unfolding told ten-chain begun ready givenOf turnWithin lengthFault check.inRange run check.stepOf check.closeOf check.nameless check.secondRoot check.accepted cell
+    every hasBit image place imageFits phaseFits inRange endOf badEnd back found walkOn stepOf
+ten-told = refl
+
+pub ten-listed : allLoose ten eight ≡ (8 ∷ 9 ∷ 10 ∷ []) ∷ []
+ten-listed = sym (loose-exactly ten eight ten-accepted tenTable ten-prepared ten-chain .whole refl) ∙ ten-told
+
+-- entries 1,4,5,0; 2,2,4,1; 3,1,4,2; 4,3,5,1 and the twig 2(3,4): none
+pub four-chain : WalkTurns four twoThreeFour fourTable fresh 99 5 (over 4 5)
+unfolding begun ready givenOf turnWithin lengthFault check.inRange run check.stepOf check.closeOf check.nameless check.secondRoot check.accepted cell
+    every hasBit image place imageFits phaseFits inRange endOf badEnd back found walkOn stepOf
+four-chain = one {b = 99} (walk-handed _)
+
+pub four-listed : allLoose four twoThreeFour ≡ []
+unfolding told begun ready givenOf turnWithin lengthFault check.inRange run check.stepOf check.closeOf check.nameless check.secondRoot check.accepted cell
+    every hasBit image place imageFits phaseFits inRange endOf badEnd back found walkOn stepOf
+four-listed = sym (loose-exactly four twoThreeFour four-accepted fourTable four-prepared (one {b = 99} (walk-handed (walkTurnOf four twoThreeFour fourTable 99 fresh))) .whole refl)
+
+-- "1(1,1,1): … 72 loose"
+pub star-count : length (allLoose five (1 ∷ 4 ∷ 5 ∷ 0 ∷ 1 ∷ 1 ∷ 3 ∷ 1 ∷ 1 ∷ 2 ∷ 4 ∷ 1 ∷ 1 ∷ 3 ∷ 5 ∷ 1 ∷ [])) ≡ 72
+unfolding looseAnswers answersFrom passing passingOf flatMap parentOf imageOf passes cell
+star-count = refl
