@@ -99,7 +99,7 @@ module _ (s tw : List ℕ) where
     all-once = loose-once (entries s) (entries tw) (entriesOf width s) (entriesOf width tw) (g .tree) (g .twig)
 
     module _ (left : List ℕ) (prepared : Prepared s tw left) where
-      abbrev pr : PreparedRight s tw g left
+      abbrev pr : PreparedRight s tw left
       pr = prepared-right s tw g left prepared
 
       -- what stopped a turn of a walk that is never refused

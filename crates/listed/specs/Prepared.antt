@@ -1,5 +1,6 @@
 -- Preparing an accepted signature for an accepted twig: n steps from the start call to the end, and then can says where each part of the twig fits.
---   PreparedRight    what the table that preparing leaves says
+--   PreparedRight    the table that preparing leaves
+--   Done, Short      what a chain of public turns comes to: the end, or the budget
 --   prepare-n        any chain of public turns that reports the end took n steps in all, and left such a table
 --   prepare-ends     one that may spend n steps reports the end; one that may spend fewer spends them all, and none is refused
 use Prim.Native.Nat.{ℕ, zero, suc, _+_, _-_, _*_, _≤_, _<_}
@@ -31,9 +32,30 @@ use Rattle.listed.specs.Loose.{PartFits}
 use Rattle.listed.specs.Tables.{Parented, step-length, clear-length}
 use Rattle.listed.specs.Rightly.{Right, clear-right, right-fits}
 use Rattle.listed.specs.Ruling.{Finished, prep-moves, Ready, ready-kept, fault-room}
-use Rattle.listed.specs.Questions.{Accepted, Lent, PrepBack, lend, PrepTurns}
+use Rattle.listed.specs.Questions.{Accepted, Lent, PrepBack, lend, PrepTurns, TableSays}
 use Rattle.listed.specs.Given.{Grounds, accepted-grounds, begun-runs}
 use Rattle.listed.specs.Public.{Back, turn-kept, Ran, chain-ran}
+
+-- ---- what is left
+
+-- what preparing leaves of an accepted signature and twig
+pub record PreparedRight (s tw left : List ℕ) : Type 0 where
+  pub room : 2 * entries s ≤ length left
+  pub says : TableSays s tw left
+  pub right : Right (entries s) (entries tw) (entriesOf width s) (entriesOf width tw) left 0
+
+-- n steps in all, and the table is right
+pub record Done (s tw : List ℕ) (B K : ℕ) (r : PrepBack) : Type 0 where
+  pub enough : entries s ≤ B
+  pub steps : K ≡ entries s
+  pub stop : r .turn .stop ≡ Stop.End
+  pub table : PreparedRight s tw (r .left)
+
+-- or the budgets were less in all, and were all spent
+pub record Short (s tw : List ℕ) (B K : ℕ) (r : PrepBack) : Type 0 where
+  pub fewer : B < entries s
+  pub steps : K ≡ B
+  pub stop : r .turn .stop ≡ Stop.Budget
 
 -- ---- chains of public turns
 
@@ -61,7 +83,7 @@ module _ (s tw : List ℕ) where
         → Is r (turn Preparing prepared (prepStep e w m) b (reading st))
     prep-runs b st r i h =
         let q : prepTurnOf s tw b (reading st) ≡ prepRunOf e w m b (reading st)
-              = begun-runs s tw g (length (st .table)) (reading st) (prepInRange n (reading st)) (prepRunOf e w m b (reading st))
+              = begun-runs s tw (g .given) (length (st .table)) (reading st) (prepInRange n (reading st)) (prepRunOf e w m b (reading st))
                 (le-leb (st .state .next .0) n (i .next-high)) (i .room) in
         let k : PrepHanded (r .turn) (r .left) (prepRunOf e w m b (reading st)) = subst (PrepHanded (r .turn) (r .left)) q h in
         let t = prepRunOf e w m b (reading st) in
@@ -97,29 +119,9 @@ module _ (s tw : List ℕ) where
           room = fault-room n (length lent) f;
         }
 
-    -- ---- the theorems
-
-    -- bit q of can of t says whether the twig's part under q fits loosely with q at t
-    pub record PreparedRight (left : List ℕ) : Type 0 where
-      pub room : 2 * n ≤ length left
-      pub fits : (q t : ℕ) → 1 ≤ q → q ≤ m → 1 ≤ t → t ≤ n → (hasBit (can left t) q ≡ true) ↔ PartFits n e w q t
-      pub right : Right n m e w left 0
-
-    -- N steps in all, and the table is right; or the budgets were less, and all spent
-    pub record Done (B K : ℕ) (r : PrepBack) : Type 0 where
-      pub enough : n ≤ B
-      pub steps : K ≡ n
-      pub stop : r .turn .stop ≡ Stop.End
-      pub table : PreparedRight (r .left)
-
-    pub record Short (B K : ℕ) (r : PrepBack) : Type 0 where
-      pub fewer : B < n
-      pub steps : K ≡ B
-      pub stop : r .turn .stop ≡ Stop.Budget
-
     module _ (lent left : List ℕ) (p : Prep) (start : StartPromise n lent (Started.Fresh p) left) where
-      pub prepare-ends : {B K : ℕ} {r : PrepBack} → PrepTurns s tw (record { state = p; table = left }) B K r → Done B K r ⊎ Short B K r
-      prepare-ends {B} {K} {r} c = by (chain-ends Preparing prepared (prepStep e w m) (x .chain) n (record { next = 0; table = f .left }) refl (f .moves))
+      grounds-ends : {B K : ℕ} {r : PrepBack} → PrepTurns s tw (record { state = p; table = left }) B K r → Done s tw B K r ⊎ Short s tw B K r
+      grounds-ends {B} {K} {r} c = by (chain-ends Preparing prepared (prepStep e w m) (x .chain) n (record { next = 0; table = f .left }) refl (f .moves))
         where
           b : Begun lent left p
           b = start-left lent left p start
@@ -140,7 +142,7 @@ module _ (s tw : List ℕ) where
               (record { next-high = omega arith; room = omega (arith, long, b .room) })
 
           by : Reached Preparing prepared (prepStep e w m) n B (x .count) (record { next = 0; table = f .left }) (x .last)
-              ⊎ Underway Preparing prepared (prepStep e w m) n B (x .count) (record { next = 0; table = f .left }) (x .last) → Done B K r ⊎ Short B K r
+              ⊎ Underway Preparing prepared (prepStep e w m) n B (x .count) (record { next = 0; table = f .left }) (x .last) → Done s tw B K r ⊎ Short s tw B K r
           by (inl q) =
               let z : r .left ≡ f .left = ap (λ (y : Preparing). y .table) (x .back .state-same ∙ q .state) in
               inl (record {
@@ -149,17 +151,32 @@ module _ (s tw : List ℕ) where
                 stop = x .back .stop-same ∙ ap stopOf (q .halt);
                 table = rw z (record {
                   room = omega (arith, f .long, long, b .room);
-                  fits = right-fits n m e w (g .tree) (g .twig) (f .left) (f .right);
+                  says = right-fits n m e w (g .tree) (g .twig) (f .left) (f .right);
                   right = f .right;
                 });
               })
           by (inr q) = inr (record { fewer = q .short; steps = x .count-same ∙ q .steps; stop = x .back .stop-same ∙ ap stopOf (q .halt) })
 
-      -- demand 3: "the steps add up to n"; demand 2: "that the table is prepared is a conclusion"
-      pub prepare-n : {B K : ℕ} {r : PrepBack} → PrepTurns s tw (record { state = p; table = left }) B K r → r .turn .stop ≡ Stop.End
-          → (K ≡ n) × PreparedRight (r .left)
-      prepare-n {B} {K} {r} c h = by (prepare-ends c)
+      pub grounds-right : {B K : ℕ} {r : PrepBack} → PrepTurns s tw (record { state = p; table = left }) B K r → r .turn .stop ≡ Stop.End
+          → PreparedRight s tw (r .left)
+      grounds-right {B} {K} {r} c h = by (grounds-ends c)
         where
-          by : Done B K r ⊎ Short B K r → (K ≡ n) × PreparedRight (r .left)
-          by (inl x) = (x .steps, x .table)
+          by : Done s tw B K r ⊎ Short s tw B K r → PreparedRight s tw (r .left)
+          by (inl x) = x .table
           by (inr x) = let q = sym h ∙ x .stop in let z : _≡_ {A = ℕ} 0 1 = cc in absurd (omega arith)
+
+-- ---- the theorems
+
+module _ (s tw : List ℕ) (accepted : Accepted s tw) (lent left : List ℕ) (p : Prep) (start : StartPromise (entries s) lent (Started.Fresh p) left) where
+  -- with n steps to spend in all, the end; with fewer, the budget, after all of them; never a refusal
+  pub prepare-ends : {B K : ℕ} {r : PrepBack} → PrepTurns s tw (record { state = p; table = left }) B K r → Done s tw B K r ⊎ Short s tw B K r
+  prepare-ends c = grounds-ends s tw (accepted-grounds s tw accepted) lent left p start c
+
+  -- demand 3: "the steps add up to n"; demand 2: "that the table is prepared is a conclusion, never a premise"
+  pub prepare-n : {B K : ℕ} {r : PrepBack} → PrepTurns s tw (record { state = p; table = left }) B K r → r .turn .stop ≡ Stop.End
+      → (K ≡ entries s) × TableSays s tw (r .left)
+  prepare-n {B} {K} {r} c h = by (prepare-ends c)
+    where
+      by : Done s tw B K r ⊎ Short s tw B K r → (K ≡ entries s) × TableSays s tw (r .left)
+      by (inl x) = (x .steps, x .table .says)
+      by (inr x) = let q = sym h ∙ x .stop in let z : _≡_ {A = ℕ} 0 1 = cc in absurd (omega arith)

@@ -39,7 +39,7 @@ use Rattle.listed.specs.Rightly.{Right}
 use Rattle.listed.specs.Questions.{Prepared, WalkTurns, told, tellOf, OnTheWay, start, handed}
 use Rattle.listed.specs.Given.{Grounds, begun-runs}
 use Rattle.listed.specs.Public.{Back, Ran, chain-ran}
-use Rattle.listed.specs.Prepared.{PreparedRight, prepare-n}
+use Rattle.listed.specs.Prepared.{PreparedRight, grounds-right}
 use Rattle.listed.specs.Choosing.{parentOf, choices, choices-plain}
 use Rattle.listed.specs.Answered.{Bits, bits-bounded}
 use Rattle.listed.specs.Saved.{byBit, shown, Small, Way, walk-mirrors}
@@ -64,10 +64,10 @@ module _ (s tw : List ℕ) (g : Grounds s tw) where
   w = entriesOf width tw
 
   -- the table that preparing left is right
-  pub prepared-right : (left : List ℕ) → Prepared s tw left → PreparedRight s tw g left
-  prepared-right left p = prepare-n s tw g (p .lent) (p .cleared) (p .state) (p .start) (p .turns) (p .ended) .1
+  pub prepared-right : (left : List ℕ) → Prepared s tw left → PreparedRight s tw left
+  prepared-right left p = grounds-right s tw g (p .lent) (p .cleared) (p .state) (p .start) (p .turns) (p .ended)
 
-  module _ (left : List ℕ) (right : PreparedRight s tw g left) where
+  module _ (left : List ℕ) (right : PreparedRight s tw left) where
     pub bits : Bits n m e w (g .tree) (g .twig) (byBit (can left))
     bits q c a b d f = (λ h. right .right .can-sound c q d f a b h, λ h. right .right .can-complete c q d f a b h)
 
@@ -115,7 +115,7 @@ module _ (s tw : List ℕ) (g : Grounds s tw) where
     walk-runs b x r i h =
         let f : inRange n m w x ≡ true = rw (i .same) (way-ranged n m e w (g .tree) (g .twig) (g .small) (can left) bound (i .walk) (i .way)) in
         let q : walkTurnOf s tw left b x ≡ walkRunOf n m e w (can left) b x
-              = begun-runs s tw g (length left) x (inRange n m w x) (walkRunOf n m e w (can left) b x) f (right .room) in
+              = begun-runs s tw (g .given) (length left) x (inRange n m w x) (walkRunOf n m e w (can left) b x) f (right .room) in
         let k : WalkHanded r (walkRunOf n m e w (can left) b x) = subst (WalkHanded r) q h in
         record { state-same = k .walk; steps-same = k .steps; stop-same = told-halt (r .stop) (walkRunOf n m e w (can left) b x .halt) (k .stop) }
 

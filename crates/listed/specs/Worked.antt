@@ -29,9 +29,8 @@ use Rattle.loose.specs.PrepTurn.{prepAt}
 use Rattle.loose.specs.Walking.{image, place, at, fresh, imageFits, phaseFits, inRange, endOf, badEnd, back, found, walkOn, stepOf}
 use Rattle.loose.specs.WalkTurn.{walkTurnOf}
 use Rattle.listed.specs.Loose.{PartFits}
-use Rattle.listed.specs.Questions.{WalkTurns, tellOf, OnTheWay, start, handed}
-use Rattle.listed.specs.Given.{accepted-grounds}
-use Rattle.listed.specs.Prepared.{prepare-n, PreparedRight}
+use Rattle.listed.specs.Questions.{TableSays, WalkTurns, tellOf, OnTheWay, start, handed}
+use Rattle.listed.specs.Prepared.{prepare-n}
 use Rattle.listed.specs.Choosing.{looseAnswers, parentOf}
 use Rattle.listed.specs.Exactly.{allLoose, Listed, Within, loose-exactly, walk-within}
 use Rattle.listed.specs.Cases.{walk-handed, five, oneOne, four, twoThreeFour, ten, eight, five-accepted, four-accepted, ten-accepted}
@@ -39,13 +38,13 @@ use Rattle.listed.specs.Cases.{fiveTable, fourTable, tenTable, lentFor, 
 
 -- ---- preparing
 
-pub five-right : (_≡_ {A = ℕ} 5 5) × PreparedRight five oneOne (accepted-grounds five oneOne five-accepted) fiveTable
-five-right = prepare-n five oneOne (accepted-grounds five oneOne five-accepted) (lentFor 5) (clearedFor 5) (prepAt 5) five-start five-turns refl
+pub five-right : (_≡_ {A = ℕ} 5 5) × TableSays five oneOne fiveTable
+five-right = prepare-n five oneOne five-accepted (lentFor 5) (clearedFor 5) (prepAt 5) five-start five-turns refl
 
 -- the twig 1(1) fits with its root at entry 1, and not with its root at entry 2, which has nothing below it
 pub five-fits : PartFits 5 (entriesOf width five) (entriesOf width oneOne) 1 1
 unfolding hasBit cell
-five-fits = five-right .1 .fits 1 1 (omega arith) (omega arith) (omega arith) (omega arith) .0 refl
+five-fits = five-right .1 1 1 (omega arith) (omega arith) (omega arith) (omega arith) .0 refl
 
 no-bit : hasBit (can fiveTable 2) 1 ≡ false
 unfolding hasBit cell
@@ -53,7 +52,7 @@ no-bit = refl
 
 pub five-not : PartFits 5 (entriesOf width five) (entriesOf width oneOne) 1 2 → ⊥
 five-not p =
-    let h = five-right .1 .fits 1 2 (omega arith) (omega arith) (omega arith) (omega arith) .1 p in
+    let h = five-right .1 1 2 (omega arith) (omega arith) (omega arith) (omega arith) .1 p in
     let q = sym no-bit ∙ h in let z : _≡_ {A = ℕ} 0 1 = cc in omega arith
 
 -- ---- walking
