@@ -18,3 +18,4 @@ pub mod Walked
 pub mod Exactly
 pub mod Cases
 pub mod Worked
+pub mod Demands
