@@ -19,3 +19,4 @@ pub mod Exactly
 pub mod Cases
 pub mod Worked
 pub mod Demands
+pub mod ShutOut
