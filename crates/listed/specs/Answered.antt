@@ -4,29 +4,29 @@
 --   Bits pass          pass says of each node and entry whether there is a match: what a right table's bits say
 --   bits-bounded       then no range fails below
 --   bits-listed        and the walk's answers are the loose answers
-use Prim.Native.Nat.{ℕ, zero, suc, _+_, _-_, _≤_, _<_}
+use Prim.Native.Nat.{ℕ, suc, _-_, _≤_, _<_}
 use mathlib.Core.Path.{_≡_, refl, ap, _∙_, sym, subst}
 use mathlib.Core.Logic.{_↔_}
-use mathlib.Core.Bool.{Bool, true, false}
+use mathlib.Core.Bool.{Bool, true}
 use mathlib.Core.List.{List, [], _∷_, _++_, map, reverse, reverse-reverse, append-nil, List·Memᴰ, Memᴰ·map, Memᴰ·of-map}
 use native.Mathlib.Omega.{arith}
 use native.Mathlib.Decide.{ℕ-discrete}
 use lib.ListN.{length, getD, replicate, length-reverse}
 use Rattle.trees.specs.Signature.{Entries}
-use Rattle.trees.specs.Facts.{Facts, Each}
+use Rattle.trees.specs.Facts.{Facts}
 use Rattle.walks.specs.Every.{Pairs, pairs-weaken, pairs-unique}
 use Rattle.walks.specs.Walking.{Choices, answersFrom}
-use Rattle.walks.specs.Answers.{Fits, Good, Before}
-use Rattle.walks.specs.Plain.{Plain, Inside, InRange, plain-rising, plain-good, plain-exactly, inside-fits}
-use Rattle.walks.specs.Listing.{answers-ascending, answers-exactly, answers-unique}
+use Rattle.walks.specs.Answers.{Fits, Good}
+use Rattle.walks.specs.Plain.{InRange, plain-rising, plain-good, plain-exactly, inside-fits}
+use Rattle.walks.specs.Listing.{answers-ascending, answers-unique}
 use Rattle.walks.specs.Potential.{Bounded}
 use Rattle.walks.specs.Preorder.{Smaller, first, then, ascending-smaller}
 use Rattle.walks.specs.Room.{imageOf, roomOf, room-get, image-zero}
 use Rattle.loose.specs.Preparing.{passes}
-use Rattle.listed.specs.Loose.{Passes, Under, rank, Ranked, LooseAnswer}
+use Rattle.listed.specs.Loose.{Passes, Under, rank, LooseAnswer}
 use Rattle.listed.specs.Matching.{Match, match, answer-match}
 use Rattle.listed.specs.Bits.{passes-true, true-passes}
-use Rattle.listed.specs.Choosing.{parentOf, endAfter, choices, choices-plain, byName, looseAnswers, NodeFits, end-high, nodes-of, of-nodes}
+use Rattle.listed.specs.Choosing.{parentOf, choices, choices-plain, byName, looseAnswers, NodeFits, end-high, nodes-of, of-nodes}
 
 -- ---- an answer read in the order of the nodes
 

@@ -7,32 +7,25 @@
 --   five-accepted, …     each signature and twig is accepted
 --   five-prepared, …     and prepared: Five in two turns, the others in one
 use Prim.Native.Nat.{ℕ, _+_, _*_}
-use mathlib.Core.Path.{_≡_, refl}
-use mathlib.Core.Bool.{Bool, true, false}
+use mathlib.Core.Path.{refl}
 use mathlib.Core.List.{List, [], _∷_}
-use lib.ListN.{length, replicate}
-use Rattle.turns.specs.Turn.{Halt, end, Turned, run}
-use Rattle.turns.specs.Chains.{Chain, one, more}
+use lib.ListN.{replicate}
+use Rattle.turns.specs.Turn.{Turned, run}
+use Rattle.turns.specs.Chains.{one, more}
 use Rattle.trees.specs.Signature.{cell}
-use Rattle.checking.specs.declared.Kind.{Kind}
 use Rattle.checking.specs.declared.Stop.{Stop}
-use Rattle.checking.specs.declared.Verdict.{Verdict}
 use Rattle.checking.specs.Rule as check
 use Rattle.checking.specs.Turn.{turnWithin, lengthFault}
-use Rattle.checking.specs.Whole.{WholePromise}
 use Rattle.checked.specs.Apart.{stopOf, told-stop}
-use Rattle.checked.specs.Yields.{entries}
-use Rattle.loose.specs.declared.Prep.{Prep}
-use Rattle.loose.specs.declared.PrepTurn.{PrepTurn}
 use Rattle.loose.specs.declared.Started.{Started}
 use Rattle.loose.specs.declared.Walk.{Walk}
 use Rattle.loose.specs.declared.WalkTurn.{WalkTurn}
 use Rattle.loose.specs.Masks.{every, hasBit, mask, put}
 use Rattle.loose.specs.Given.{givenOf, ready, begun}
 use Rattle.loose.specs.Preparing.{Preparing, passes, childrenIn, stands, canOf, badParent, written, joined, stepTable, prepStep}
-use Rattle.loose.specs.PrepTurn.{cleared, startFault, StartPromise, prepAt, preparing, prepTurnOf, PrepHanded}
-use Rattle.loose.specs.WalkTurn.{walkTurnOf, WalkHanded}
-use Rattle.listed.specs.Questions.{Accepted, Lent, PrepBack, lend, PrepTurns, Prepared, WalkTurns}
+use Rattle.loose.specs.PrepTurn.{cleared, startFault, StartPromise, prepAt, PrepHanded}
+use Rattle.loose.specs.WalkTurn.{WalkHanded}
+use Rattle.listed.specs.Questions.{Accepted, PrepBack, PrepTurns, Prepared}
 
 -- ---- what the code hands back
 

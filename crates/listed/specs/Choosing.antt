@@ -6,18 +6,18 @@
 --   looseAnswers n m e w   all loose answers, ascending, in twig preorder: by names alone, so that no table is named
 --   NodeFits           what the walk asks of one node's image
 --   nodes-of, of-nodes the images are in range exactly if each node's is
-use Prim.Native.Nat.{ℕ, zero, suc, _+_, _-_, _≤_, _<_}
-use mathlib.Core.Path.{_≡_, refl, ap, _∙_, sym, subst}
-use mathlib.Core.Bool.{Bool, true, false}
+use Prim.Native.Nat.{ℕ, suc, _+_, _≤_, _<_}
+use mathlib.Core.Path.{_≡_, refl, sym, subst}
+use mathlib.Core.Bool.{Bool, true}
 use mathlib.Core.List.{List, [], _∷_, map, reverse}
 use native.Mathlib.Omega.{arith}
 use native.Mathlib.Decide.{ℕ-discrete}
 use lib.ListN.{length}
 use Rattle.trees.specs.Signature.{Entries}
-use Rattle.trees.specs.Facts.{Facts, Each}
+use Rattle.trees.specs.Facts.{Facts}
 use Rattle.walks.specs.Walking.{Choices, answersFrom}
 use Rattle.walks.specs.Plain.{Plain, Inside, InRange}
-use Rattle.walks.specs.Room.{imageOf, image-top, image-down, image-zero}
+use Rattle.walks.specs.Room.{imageOf, image-top, image-down}
 use Rattle.loose.specs.Preparing.{passes}
 
 -- the image of the next node's twig parent; what stands above the root has image 0

@@ -5,10 +5,10 @@
 --   PrepThree, WalkThree   demand 3: each turn is what document 01 says of a turn of the written rule
 --   ours-prep-two, ours-walk-two, ours-prep-three, ours-walk-three   whatever keeps our promises meets them
 --   prep-three-turn, walk-three-turn   demand 3 leaves one turn only
-use Prim.Native.Nat.{ℕ, _+_, _*_, _≤_, _<_}
-use mathlib.Core.Path.{_≡_, refl, ap, ap₂, _∙_, sym, subst}
+use Prim.Native.Nat.{ℕ, _+_, _*_, _≤_}
+use mathlib.Core.Path.{_≡_, refl, ap, _∙_, sym, subst}
 use mathlib.Core.Logic.{_⊎_, inl, inr}
-use mathlib.Core.Bool.{Bool, true}
+use mathlib.Core.Bool.{true}
 use mathlib.Core.List.{List, _++_}
 use native.Mathlib.Omega.{arith}
 use lib.ListN.{length}
@@ -21,7 +21,6 @@ use Rattle.walks.specs.Chained.{told, AllButLast}
 use Rattle.checking.specs.declared.Stop.{Stop}
 use Rattle.checked.specs.Yields.{entries}
 use Rattle.loose.specs.declared.Prep.{Prep}
-use Rattle.loose.specs.declared.PrepTurn.{PrepTurn}
 use Rattle.loose.specs.declared.Started.{Started}
 use Rattle.loose.specs.declared.Walk.{Walk}
 use Rattle.loose.specs.declared.WalkTurn.{WalkTurn}
@@ -31,11 +30,11 @@ use Rattle.loose.specs.Preparing.{Preparing, prepared, prepStep}
 use Rattle.loose.specs.PrepTurn.{StartPromise, preparing, prepInRange, prepRunOf, PrepHanded, PrepPromise}
 use Rattle.loose.specs.Walking.{inRange, stepOf, ended, fresh}
 use Rattle.loose.specs.WalkTurn.{walkRunOf, WalkHanded, WalkPromise}
-use Rattle.listed.specs.Questions.{Accepted, Lent, PrepBack, lend, PrepTurns, TableSays, Prepared, WalkTurns, tellOf, start}
+use Rattle.listed.specs.Questions.{Accepted, Lent, PrepBack, lend, TableSays, Prepared, tellOf, start}
 use Rattle.listed.specs.Given.{begun-runs}
 use Rattle.listed.specs.Ruling.{Ready}
 use Rattle.listed.specs.Prepared.{Done, Short, prepare-n, prepare-ends}
-use Rattle.listed.specs.Exactly.{allLoose, Listed, Within, loose-exactly, walk-within}
+use Rattle.listed.specs.Exactly.{allLoose, loose-exactly, walk-within}
 
 -- given signature, twig, budget, and state and table
 abbrev pub Preparer : Type 0

@@ -6,19 +6,18 @@
 --   loose-exactly     the answers told along the chain are that list, each once, and all of it where the end is reported
 --   Within B K r      what the theorem says of turns between
 --   walk-within       from the start, from any answer and from any walk handed back, at most 2×m×n+1 steps
-use Prim.Native.Nat.{ℕ, zero, suc, _+_, _-_, _*_, _≤_, _<_}
+use Prim.Native.Nat.{ℕ, suc, _+_, _-_, _*_, _≤_}
 use mathlib.Core.Path.{_≡_, refl, ap, _∙_, sym, subst}
-use mathlib.Core.Logic.{_⊎_, inl, inr, _↔_}
+use mathlib.Core.Logic.{_⊎_, inl, inr}
 use mathlib.Core.List.{List, [], _++_, map, reverse, map-append, List·Memᴰ}
 use native.Mathlib.Omega.{arith}
-use lib.ListN.{length}
 use Rattle.turns.specs.Turn.{Halt, answer, end, budget, refusal, Turned, Outcome, ended, spent, told as tells, faulty}
 use Rattle.turns.specs.Laws.{turn-outcome}
 use Rattle.turns.specs.Chains.{one, more}
 use Rattle.trees.specs.Signature.{entriesOf, width}
 use Rattle.walks.specs.Every.{Pairs}
 use Rattle.walks.specs.Walking as walks
-use Rattle.walks.specs.Walking.{Choices, answersFrom, ahead, walkDone, walkStep, walkTurn}
+use Rattle.walks.specs.Walking.{Choices, answersFrom, ahead, walkDone, walkStep}
 use Rattle.walks.specs.Preorder.{Smaller}
 use Rattle.walks.specs.Telling as telling
 use Rattle.walks.specs.Telling.{tell, fresh-told, fresh-all, chain-limit}
@@ -39,7 +38,7 @@ use Rattle.listed.specs.Prepared.{PreparedRight}
 use Rattle.listed.specs.Choosing.{looseAnswers}
 use Rattle.listed.specs.Answered.{bits-listed, loose-sound, loose-complete, loose-ascending, loose-once, loose-unique}
 use Rattle.listed.specs.Saved.{byBit}
-use Rattle.listed.specs.Walked.{prepared-right, bits, ch, rise, bound, Run, first, fresh-run, Onward, way-run}
+use Rattle.listed.specs.Walked.{prepared-right, bits, ch, rise, bound, fresh-run, way-run}
 
 -- no turn of a walk is refused
 outcome-unrefused : (ch : Choices) {b : ℕ} {w : walks.Walk} {t : Turned walks.Walk} → Outcome walks.Walk walkDone (walkStep ch) b w t

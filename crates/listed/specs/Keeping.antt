@@ -2,20 +2,19 @@
 --   can-now-sound, can-now-complete   can of the entry on hand is right
 --   below-now-sound, below-now-complete   and so is below of every entry, its fa's joined
 --   step-right     the table after the step
-use Prim.Native.Nat.{ℕ, zero, suc, _+_, _-_, _*_, _≤_, _<_}
-use mathlib.Core.Path.{_≡_, refl, sym, ap, subst, _∙_}
+use Prim.Native.Nat.{ℕ, _-_, _*_, _≤_, _<_}
+use mathlib.Core.Path.{_≡_, sym, ap, _∙_}
 use mathlib.Core.Logic.{_⊎_, inl, inr}
-use mathlib.Core.Bool.{Bool, true, false, _||_}
+use mathlib.Core.Bool.{Bool, true, _||_}
 use mathlib.Core.List.{List}
 use native.Mathlib.Omega.{arith}
 use native.Mathlib.Decide.{decLe, ℕ-discrete}
 use lib.Bits.{bitOr}
 use lib.ListN.{length}
 use Rattle.trees.specs.Signature.{Entries}
-use Rattle.trees.specs.Facts.{Facts, Each, Inside}
+use Rattle.trees.specs.Facts.{Facts}
 use Rattle.loose.specs.Masks.{hasBit, can, below}
-use Rattle.loose.specs.Preparing.{canOf, stands, stepTable}
-use Rattle.listed.specs.Loose.{Passes, Under}
+use Rattle.loose.specs.Preparing.{stepTable}
 use Rattle.listed.specs.Matching.{Match, match}
 use Rattle.listed.specs.Bits.{or-bit, or-true, true-left, true-right, stands-each, each-stands, can-bit}
 use Rattle.listed.specs.Tables.{Parented, newCan, can-new, can-same, below-new, below-same}

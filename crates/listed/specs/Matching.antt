@@ -3,18 +3,16 @@
 --   fits-match, match-fits   there is one exactly if the part fits
 --   answer-match        each node of a loose answer has a match at its image
 use Prim.Native.Nat.{ℕ, zero, suc, _+_, _-_, _≤_, _<_}
-use mathlib.Core.Path.{_≡_, refl, ap, _∙_, sym, subst}
+use mathlib.Core.Path.{_≡_, refl, _∙_, subst}
 use mathlib.Core.Logic.{_⊎_, inl, inr}
-use mathlib.Core.Bool.{Bool, true, false}
 use mathlib.Core.List.{List}
 use native.Mathlib.Omega.{arith}
-use native.Mathlib.Decide.{ℕ-discrete, decLt}
+use native.Mathlib.Decide.{ℕ-discrete}
 use lib.Dec.{eqb}
-use lib.ListN.{length}
 use borrow.Author.Tests.{eq-eqb, ne-eqb}
 use Rattle.turns.specs.Pick.{pick}
 use Rattle.trees.specs.Signature.{Entries}
-use Rattle.trees.specs.Facts.{Facts, Each, Inside, Follows}
+use Rattle.trees.specs.Facts.{Facts, Inside, Follows}
 use Rattle.listed.specs.Loose.{Passes, Under, rank, Ranked, LooseAnswer, PartFits}
 
 -- the images x, with y for node r

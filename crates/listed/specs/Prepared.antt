@@ -3,33 +3,27 @@
 --   Done, Short      what a chain of public turns comes to: the end, or the budget
 --   prepare-n        any chain of public turns that reports the end took n steps in all, and left such a table
 --   prepare-ends     one that may spend n steps reports the end; one that may spend fewer spends them all, and none is refused
-use Prim.Native.Nat.{ℕ, zero, suc, _+_, _-_, _*_, _≤_, _<_}
+use Prim.Native.Nat.{ℕ, _*_, _≤_, _<_}
 use mathlib.Core.Path.{_≡_, refl, ap, _∙_, sym, subst}
-use mathlib.Core.Logic.{_⊎_, inl, inr, _↔_}
-use mathlib.Core.Bool.{Bool, true, false, _&&_, _||_}
+use mathlib.Core.Logic.{_⊎_, inl, inr}
+use mathlib.Core.Bool.{Bool, true}
 use mathlib.Core.List.{List, []}
 use native.Mathlib.Omega.{arith}
-use native.Mathlib.Decide.{decLe, ℕ-discrete}
-use lib.Dec.{eqb, leb, ltb}
+use lib.Dec.{eqb}
 use lib.ListN.{length}
-use borrow.Author.Tests.{eq-eqb, ne-eqb, le-leb, lt-leb, lt-ltb, le-ltb, leb-true}
+use borrow.Author.Tests.{eq-eqb, le-leb}
 use Rattle.turns.specs.Pick.{pick}
-use Rattle.turns.specs.Turn.{Next, moved, answered, refused, Halt, end, Turned, turn, Moves, stay, move, Step, on, found}
-use Rattle.turns.specs.Chains.{Chain, Reached, Underway, chain-ends}
+use Rattle.turns.specs.Turn.{Turned, turn}
+use Rattle.turns.specs.Chains.{Reached, Underway, chain-ends}
 use Rattle.trees.specs.Signature.{Entries, entriesOf, width}
-use Rattle.trees.specs.Facts.{Facts, Each}
 use Rattle.checking.specs.declared.Stop.{Stop}
-use Rattle.checking.specs.Stops.{told, haltTold}
 use Rattle.checked.specs.Apart.{stopOf, told-halt}
 use Rattle.checked.specs.Yields.{entries}
 use Rattle.loose.specs.declared.Prep.{Prep}
-use Rattle.loose.specs.declared.PrepTurn.{PrepTurn}
 use Rattle.loose.specs.declared.Started.{Started}
-use Rattle.loose.specs.Masks.{hasBit, can}
-use Rattle.loose.specs.Preparing.{Preparing, prepared, badParent, stepTable, prepStep}
-use Rattle.loose.specs.PrepTurn.{cleared, Fresh, startTold, startFault, StartPromise, preparing, prepRunOf, prepTurnOf, prepInRange, PrepHanded, PrepPromise}
-use Rattle.listed.specs.Loose.{PartFits}
-use Rattle.listed.specs.Tables.{Parented, step-length, clear-length}
+use Rattle.loose.specs.Preparing.{Preparing, prepared, prepStep}
+use Rattle.loose.specs.PrepTurn.{cleared, Fresh, startFault, StartPromise, preparing, prepRunOf, prepTurnOf, prepInRange, PrepHanded, PrepPromise}
+use Rattle.listed.specs.Tables.{clear-length}
 use Rattle.listed.specs.Rightly.{Right, clear-right, right-fits}
 use Rattle.listed.specs.Ruling.{Finished, prep-moves, Ready, ready-kept, fault-room}
 use Rattle.listed.specs.Questions.{Accepted, Lent, PrepBack, lend, PrepTurns, TableSays}

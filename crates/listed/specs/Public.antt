@@ -4,10 +4,10 @@
 --   Ran c           the chain of the rule that a chain of public turns is: the same budgets, steps, stops, and the same told
 --   chain-ran       there is one
 use Prim.Native.Nat.{ℕ, _+_}
-use mathlib.Core.Path.{_≡_, refl, ap, ap₂, _∙_, sym, subst}
+use mathlib.Core.Path.{_≡_, refl, ap₂, _∙_, sym, subst}
 use mathlib.Core.Bool.{Bool}
 use mathlib.Core.List.{List, _++_}
-use Rattle.turns.specs.Turn.{Next, Halt, budget, Turned, turn, Step, Steps, none, then}
+use Rattle.turns.specs.Turn.{Next, Turned, turn, Step, Steps, none, then}
 use Rattle.turns.specs.Counts.{counted}
 use Rattle.turns.specs.Chains.{Chain, one, more, Turns}
 use Rattle.walks.specs.Chained.{told, AllButLast}

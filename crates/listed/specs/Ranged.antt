@@ -1,9 +1,9 @@
 -- Every saved walk on the way is within document 01's ranges, so no public turn refuses it.
 --   images-fit     the sixteen images
 --   way-ranged     all of it
-use Prim.Native.Nat.{ℕ, zero, suc, _+_, _-_, _≤_, _<_}
-use mathlib.Core.Path.{_≡_, refl, ap, _∙_, sym, subst}
-use mathlib.Core.Bool.{Bool, true, false, _&&_}
+use Prim.Native.Nat.{ℕ, suc, _+_, _≤_}
+use mathlib.Core.Path.{_≡_, refl, _∙_}
+use mathlib.Core.Bool.{true, _&&_}
 use mathlib.Core.List.{List, [], _∷_}
 use native.Mathlib.Omega.{arith}
 use native.Mathlib.Decide.{decLe}
@@ -12,21 +12,21 @@ use lib.ListN.{length}
 use borrow.Author.Tests.{eq-eqb, le-leb, lt-leb, lt-ltb}
 use Rattle.turns.specs.Pick.{pick}
 use Rattle.trees.specs.Signature.{Entries}
-use Rattle.trees.specs.Facts.{Facts, Each}
+use Rattle.trees.specs.Facts.{Facts}
 use Rattle.walks.specs.Walking as walks
 use Rattle.walks.specs.Walking.{Choices, walking, atAnswer, atEnd}
 use Rattle.walks.specs.Answers.{Good}
 use Rattle.walks.specs.Plain.{plain-rising}
 use Rattle.walks.specs.Ranges.{reached-least}
-use Rattle.walks.specs.Potential.{Bounded, Trying, OnTheWay}
-use Rattle.walks.specs.Room.{imageOf, roomOf, image-unset, image-top, image-down}
+use Rattle.walks.specs.Potential.{Bounded}
+use Rattle.walks.specs.Room.{imageOf, roomOf, image-unset, image-top}
 use Rattle.loose.specs.declared.Phase.{Phase}
 use Rattle.loose.specs.declared.Walk.{Walk}
 use Rattle.loose.specs.Masks.{every}
 use Rattle.loose.specs.Walking.{image, at, placed, imageFits, phaseFits, inRange}
-use Rattle.listed.specs.Bits.{each-every, true-and}
-use Rattle.listed.specs.Choosing.{parentOf, choices, choices-plain, NodeFits}
-use Rattle.listed.specs.Saved.{byBit, shown, Small, image-room, Way, nodes}
+use Rattle.listed.specs.Bits.{each-every}
+use Rattle.listed.specs.Choosing.{parentOf, choices, choices-plain}
+use Rattle.listed.specs.Saved.{byBit, shown, image-room, Way, nodes}
 
 module _ (n m : ℕ) (e w : Entries) (tree : Facts n e) (twig : Facts m w) (small : m ≤ 16) (can : ℕ → ℕ)
     (bound : Bounded (choices n e w (byBit can)) m n) where

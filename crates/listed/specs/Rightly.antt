@@ -8,23 +8,20 @@
 --   clear-right         so it is where the start call left nothing but zeros
 --   right-fits          where all entries are done, bit q of can of t says whether the twig's part under q fits with q at t
 use Prim.Native.Nat.{ℕ, zero, suc, _+_, _-_, _*_, _≤_, _<_}
-use mathlib.Core.Path.{_≡_, refl, sym, ap, subst, _∙_}
+use mathlib.Core.Path.{_≡_, sym, ap, subst, _∙_}
 use mathlib.Core.Logic.{_⊎_, inl, inr, _↔_}
-use mathlib.Core.Bool.{Bool, true, false, _||_}
+use mathlib.Core.Bool.{true, false}
 use mathlib.Core.List.{List}
 use native.Mathlib.Omega.{arith}
-use native.Mathlib.Decide.{decLe, ℕ-discrete}
-use lib.Bits.{bitOr}
-use lib.ListN.{length}
+use native.Mathlib.Decide.{ℕ-discrete}
 use Rattle.trees.specs.Signature.{Entries, cell}
-use Rattle.trees.specs.Facts.{Facts, Each, Inside, Follows}
+use Rattle.trees.specs.Facts.{Facts, Inside, Follows}
 use Rattle.loose.specs.Masks.{hasBit, can, below}
-use Rattle.loose.specs.Preparing.{canOf, stands, stepTable}
 use Rattle.loose.specs.PrepTurn.{cleared}
-use Rattle.listed.specs.Loose.{Passes, Under, PartFits}
-use Rattle.listed.specs.Matching.{Match, match, fits-match, match-fits}
-use Rattle.listed.specs.Bits.{or-bit, zero-bit, or-true, true-left, true-right, stands-each, each-stands, can-bit}
-use Rattle.listed.specs.Tables.{Parented, newCan, can-new, can-same, below-new, below-same, clear-get}
+use Rattle.listed.specs.Loose.{Under, PartFits}
+use Rattle.listed.specs.Matching.{Match, fits-match, match-fits}
+use Rattle.listed.specs.Bits.{zero-bit}
+use Rattle.listed.specs.Tables.{clear-get}
 
 -- the child of s in whose block j lies
 pub record Child (n : ℕ) (e : Entries) (s j : ℕ) : Type 0 where

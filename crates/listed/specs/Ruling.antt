@@ -4,38 +4,24 @@
 --   Ready n st         what a public turn asks of its state and table
 --   ready-kept         every step keeps it
 --   fault-room         a start call that worked was lent 2×n numbers
-use Prim.Native.Nat.{ℕ, zero, suc, _+_, _-_, _*_, _≤_, _<_}
-use mathlib.Core.Path.{_≡_, refl, ap, _∙_, sym, subst}
-use mathlib.Core.Logic.{_⊎_, inl, inr, _↔_}
+use Prim.Native.Nat.{ℕ, zero, suc, _-_, _*_, _≤_}
+use mathlib.Core.Path.{_≡_, refl, ap, _∙_, subst}
 use mathlib.Core.Bool.{Bool, true, false, _&&_, _||_}
-use mathlib.Core.List.{List, []}
+use mathlib.Core.List.{List}
 use native.Mathlib.Omega.{arith}
-use native.Mathlib.Decide.{decLe, ℕ-discrete}
+use native.Mathlib.Decide.{decLe}
 use lib.Dec.{eqb, leb, ltb}
 use lib.ListN.{length}
-use borrow.Author.Tests.{eq-eqb, ne-eqb, le-leb, lt-leb, lt-ltb, le-ltb, leb-true}
+use borrow.Author.Tests.{ne-eqb, lt-leb, lt-ltb, le-ltb, leb-true}
 use Rattle.turns.specs.Pick.{pick}
-use Rattle.turns.specs.Turn.{Next, moved, answered, refused, Halt, end, Turned, turn, Moves, stay, move, Step, on, found}
-use Rattle.turns.specs.Chains.{Chain, Reached, Underway, chain-ends}
-use Rattle.trees.specs.Signature.{Entries, entriesOf, width}
-use Rattle.trees.specs.Facts.{Facts, Each}
-use Rattle.checking.specs.declared.Stop.{Stop}
-use Rattle.checking.specs.Stops.{told, haltTold}
-use Rattle.checked.specs.Apart.{stopOf, told-halt}
-use Rattle.checked.specs.Yields.{entries}
-use Rattle.loose.specs.declared.Prep.{Prep}
-use Rattle.loose.specs.declared.PrepTurn.{PrepTurn}
-use Rattle.loose.specs.declared.Started.{Started}
-use Rattle.loose.specs.Masks.{hasBit, can}
+use Rattle.turns.specs.Turn.{Next, moved, answered, refused, Moves, stay, move, Step, on, found}
+use Rattle.trees.specs.Signature.{Entries}
+use Rattle.trees.specs.Facts.{Facts}
 use Rattle.loose.specs.Preparing.{Preparing, prepared, badParent, stepTable, prepStep}
-use Rattle.loose.specs.PrepTurn.{cleared, Fresh, startTold, startFault, StartPromise, preparing, prepRunOf, prepTurnOf, prepInRange, PrepHanded, PrepPromise}
-use Rattle.listed.specs.Loose.{PartFits}
-use Rattle.listed.specs.Tables.{Parented, step-length, clear-length}
-use Rattle.listed.specs.Rightly.{Right, clear-right, right-fits}
+use Rattle.loose.specs.PrepTurn.{startFault}
+use Rattle.listed.specs.Tables.{Parented, step-length}
+use Rattle.listed.specs.Rightly.{Right}
 use Rattle.listed.specs.Keeping.{step-right}
-use Rattle.listed.specs.Questions.{Accepted, Lent, PrepBack, lend, PrepTurns}
-use Rattle.listed.specs.Given.{Grounds, accepted-grounds, begun-runs}
-use Rattle.listed.specs.Public.{Back, Ran, chain-ran}
 
 -- ---- the rule
 

@@ -9,20 +9,18 @@ use mathlib.Core.Path.{_≡_, refl, ap, _∙_, sym, subst}
 use mathlib.Core.Bool.{Bool, true, false, _&&_, _||_}
 use mathlib.Core.List.{List, [], _∷_}
 use native.Mathlib.Omega.{arith}
-use native.Mathlib.Decide.{decLe}
 use native.Mathlib.Numerals.{add-one}
-use lib.Dec.{leb, ltb, eqb}
-use lib.ListN.{length, getD, set, replicate}
-use borrow.Author.Tests.{eq-eqb, ne-eqb, le-leb, lt-leb, lt-ltb, le-ltb}
+use lib.Dec.{leb, ltb}
+use lib.ListN.{length, set}
+use borrow.Author.Tests.{eq-eqb, ne-eqb, le-leb, lt-leb, le-ltb}
 use Rattle.turns.specs.Pick.{pick}
 use Rattle.turns.specs.Turn.{Next, moved, answered, refused, Step, on, found}
 use Rattle.trees.specs.Signature.{Entries}
-use Rattle.trees.specs.Facts.{Facts, Each}
+use Rattle.trees.specs.Facts.{Facts}
 use Rattle.walks.specs.Walking as walks
-use Rattle.walks.specs.Walking.{Choices, walking, atAnswer, atEnd, walkDone, walkStep, try, backFrom, setTo}
-use Rattle.walks.specs.Answers.{Good, Fits}
-use Rattle.walks.specs.Plain.{InRange, plain-good, plain-rising, fits-inside}
-use Rattle.walks.specs.Ranges.{reached-least}
+use Rattle.walks.specs.Walking.{Choices, walking, atAnswer, atEnd, walkDone, walkStep}
+use Rattle.walks.specs.Answers.{Good}
+use Rattle.walks.specs.Plain.{plain-good}
 use Rattle.walks.specs.Stepping as stepping
 use Rattle.walks.specs.Stepping.{Tried, step-walking, step-answer}
 use Rattle.walks.specs.Potential.{Bounded, Trying, OnTheWay}

@@ -5,13 +5,13 @@
 --   prep-out-still, walk-out-still          the same (demand 3, as a paid step leaves a named state)
 --   prep-out-at-once, walk-out-at-once      all the work in the first turn and idling later (demand 3)
 --   prep-out-invented, walk-out-invented    an invented step count (demand 3)
-use Prim.Native.Nat.{ℕ, _+_, _*_, _≤_, _<_}
-use mathlib.Core.Path.{_≡_, refl, ap, _∙_, sym, subst}
+use Prim.Native.Nat.{ℕ}
+use mathlib.Core.Path.{_≡_, refl, ap, _∙_, sym}
 use mathlib.Core.Logic.{_⊎_, inl, inr}
-use mathlib.Core.Bool.{Bool, true, false}
+use mathlib.Core.Bool.{true, false}
 use mathlib.Core.List.{List, [], _∷_, _++_}
 use native.Mathlib.Omega.{arith}
-use lib.ListN.{length, take}
+use lib.ListN.{take}
 use Rattle.turns.specs.Turn.{Turned, run}
 use Rattle.turns.specs.Chains.{one}
 use Rattle.trees.specs.Signature.{cell, entriesOf, width}
@@ -25,11 +25,11 @@ use Rattle.loose.specs.declared.WalkTurn.{WalkTurn}
 use Rattle.loose.specs.Masks.{every, hasBit, mask, put, can}
 use Rattle.loose.specs.Given.{givenOf, ready, begun}
 use Rattle.loose.specs.Preparing.{Preparing, passes, childrenIn, stands, canOf, badParent, written, joined, stepTable, prepStep}
-use Rattle.loose.specs.PrepTurn.{cleared, startFault, prepAt, prepRunOf, prepTurnOf}
+use Rattle.loose.specs.PrepTurn.{cleared, prepAt, prepRunOf, prepTurnOf}
 use Rattle.loose.specs.Walking.{image, place, fresh, imageFits, phaseFits, inRange, endOf, badEnd, back, found, walkOn, stepOf}
 use Rattle.loose.specs.WalkTurn.{walkRunOf, walkTurnOf}
 use Rattle.listed.specs.Loose.{PartFits}
-use Rattle.listed.specs.Questions.{Accepted, Lent, PrepBack, TableSays, Prepared, tellOf}
+use Rattle.listed.specs.Questions.{Lent, PrepBack, TableSays}
 use Rattle.listed.specs.Questions as questions
 use Rattle.listed.specs.Given.{accepted-grounds}
 use Rattle.listed.specs.Ruling.{Ready}

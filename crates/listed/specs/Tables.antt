@@ -5,19 +5,16 @@
 --   step-length         it is as long as before
 --   clear-length, clear-get   the table that the start call leaves
 use Prim.Native.Nat.{ℕ, zero, suc, _+_, _-_, _*_, _≤_, _<_}
-use mathlib.Core.Path.{_≡_, refl, ap, _∙_, sym}
-use mathlib.Core.Bool.{Bool, true, false}
+use mathlib.Core.Path.{_≡_, refl, ap, _∙_}
 use mathlib.Core.List.{List, [], _∷_}
 use native.Mathlib.Omega.{arith}
 use native.Mathlib.Decide.{decLe}
-use lib.Dec.{leb}
 use lib.Bits.{bitOr}
-use lib.ListN.{length, getD, set, length-set}
+use lib.ListN.{length, getD, length-set}
 use lib.Seq.{getD-set-same, getD-set-other}
 use borrow.Author.Tests.{le-leb, lt-leb}
-use Rattle.turns.specs.Pick.{pick}
 use Rattle.trees.specs.Signature.{Entries, cell}
-use Rattle.loose.specs.Masks.{tableWidth, can, below, put}
+use Rattle.loose.specs.Masks.{can, below, put}
 use Rattle.loose.specs.Preparing.{canOf, written, joined, stepTable}
 use Rattle.loose.specs.PrepTurn.{cleared}
 

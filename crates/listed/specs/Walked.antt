@@ -3,46 +3,42 @@
 --   Run               the chain over the choices that a chain of public turns is
 --   walk-run          there is one from every walk on the way
 --   chain-told        what it tells, in twig preorder
-use Prim.Native.Nat.{ℕ, zero, suc, _+_, _-_, _*_, _≤_, _<_}
+use Prim.Native.Nat.{ℕ, _-_}
 use mathlib.Core.Path.{_≡_, refl, ap, ap₂, _∙_, sym, subst}
-use mathlib.Core.Logic.{_⊎_, inl, inr, _↔_}
-use mathlib.Core.Bool.{Bool, true, false}
+use mathlib.Core.Bool.{true}
 use mathlib.Core.List.{List, [], _∷_, _++_, map, reverse, map-append}
 use native.Mathlib.Omega.{arith}
 use lib.ListN.{length, take}
-use Rattle.turns.specs.Turn.{Next, Halt, answer, end, budget, refusal, Turned, turn, Step}
-use Rattle.turns.specs.Chains.{Chain, one, more, Turns}
+use Rattle.turns.specs.Turn.{Next, Halt, answer, end, budget, refusal, Turned, turn}
+use Rattle.turns.specs.Chains.{one, more}
 use Rattle.trees.specs.Signature.{Entries, entriesOf, width}
-use Rattle.trees.specs.Facts.{Facts}
 use Rattle.walks.specs.Walking as walks
 use Rattle.walks.specs.Walking.{Choices, Rising, walking, atAnswer, atEnd, images, walkDone, walkStep, walkTurn}
 use Rattle.walks.specs.Plain.{plain-rising}
 use Rattle.walks.specs.Potential as potential
 use Rattle.walks.specs.Potential.{Bounded}
 use Rattle.walks.specs.Falling.{fresh-way}
-use Rattle.walks.specs.Within.{turn-way}
 use Rattle.walks.specs.Telling as telling
 use Rattle.walks.specs.Telling.{tell, turn-good}
 use Rattle.walks.specs.Chained as chained
 use Rattle.walks.specs.Chained.{AllButLast}
-use Rattle.walks.specs.Mirror.{asTurned, Mirrors, turn-mirrored, turn-inv, Mirrored, chain-mirrored}
+use Rattle.walks.specs.Mirror.{asTurned, Mirrors, turn-mirrored, turn-inv, chain-mirrored}
 use Rattle.walks.specs.Room.{imageOf, roomOf, room-take}
 use Rattle.checking.specs.declared.Stop.{Stop}
 use Rattle.checked.specs.Apart.{stopOf, told-halt}
 use Rattle.checked.specs.Yields.{entries}
 use Rattle.loose.specs.declared.Walk.{Walk}
 use Rattle.loose.specs.declared.WalkTurn.{WalkTurn}
-use Rattle.loose.specs.Masks.{hasBit, can}
+use Rattle.loose.specs.Masks.{can}
 use Rattle.loose.specs.Walking.{inRange, stepOf, ended, fresh}
 use Rattle.loose.specs.WalkTurn.{walkRunOf, walkTurnOf, WalkHanded, WalkPromise}
-use Rattle.listed.specs.Rightly.{Right}
 use Rattle.listed.specs.Questions.{Prepared, WalkTurns, told, tellOf, OnTheWay, start, handed}
 use Rattle.listed.specs.Given.{Grounds, begun-runs}
 use Rattle.listed.specs.Public.{Back, Ran, chain-ran}
 use Rattle.listed.specs.Prepared.{PreparedRight, grounds-right}
 use Rattle.listed.specs.Choosing.{parentOf, choices, choices-plain}
 use Rattle.listed.specs.Answered.{Bits, bits-bounded}
-use Rattle.listed.specs.Saved.{byBit, shown, Small, Way, walk-mirrors}
+use Rattle.listed.specs.Saved.{byBit, shown, Way, walk-mirrors}
 use Rattle.listed.specs.Ranged.{way-ranged}
 
 shown-images : (n : ℕ) (s : walks.Walk) → shown n s .images ≡ roomOf 16 (images s)

@@ -4,19 +4,18 @@
 --   five-within               each of them within 2×m×n+1 = 21 steps
 --   ten-listed, four-listed   8(9,10) on Ten has just the answer 8 9 10; 2(3,4) on the four entries has none
 --   star-count                1(1,1,1) on Five has 72
-use Prim.Native.Nat.{ℕ, _+_, _*_, _≤_, _<_}
+use Prim.Native.Nat.{ℕ, _+_}
 use mathlib.Core.Path.{_≡_, refl, _∙_, sym}
-use mathlib.Core.Logic.{_⊎_, inl, inr}
-use mathlib.Core.Bool.{Bool, true, false}
-use mathlib.Core.List.{List, [], _∷_, map, flatMap}
+use mathlib.Core.Bool.{false}
+use mathlib.Core.List.{List, [], _∷_, flatMap}
 use native.Mathlib.Omega.{arith}
 use lib.ListN.{length, replicate}
 use Rattle.turns.specs.Turn.{run}
-use Rattle.turns.specs.Chains.{Chain, one, more}
+use Rattle.turns.specs.Chains.{one, more}
 use Rattle.trees.specs.Signature.{cell, entriesOf, width}
 use Rattle.walks.specs.Walking.{answersFrom, passing, passingOf}
 use Rattle.walks.specs.Room.{imageOf}
-use Rattle.walks.specs.Chained.{told, AllButLast}
+use Rattle.walks.specs.Chained.{told}
 use Rattle.checking.specs.declared.Stop.{Stop}
 use Rattle.checking.specs.Rule as check
 use Rattle.checking.specs.Turn.{turnWithin, lengthFault}
@@ -29,10 +28,10 @@ use Rattle.loose.specs.PrepTurn.{prepAt}
 use Rattle.loose.specs.Walking.{image, place, at, fresh, imageFits, phaseFits, inRange, endOf, badEnd, back, found, walkOn, stepOf}
 use Rattle.loose.specs.WalkTurn.{walkTurnOf}
 use Rattle.listed.specs.Loose.{PartFits}
-use Rattle.listed.specs.Questions.{TableSays, WalkTurns, tellOf, OnTheWay, start, handed}
+use Rattle.listed.specs.Questions.{TableSays, WalkTurns, tellOf, start, handed}
 use Rattle.listed.specs.Prepared.{prepare-n}
 use Rattle.listed.specs.Choosing.{looseAnswers, parentOf}
-use Rattle.listed.specs.Exactly.{allLoose, Listed, Within, loose-exactly, walk-within}
+use Rattle.listed.specs.Exactly.{allLoose, Within, loose-exactly, walk-within}
 use Rattle.listed.specs.Cases.{walk-handed, five, oneOne, four, twoThreeFour, ten, eight, five-accepted, four-accepted, ten-accepted}
 use Rattle.listed.specs.Cases.{fiveTable, fourTable, tenTable, lentFor, clearedFor, five-start, five-turns, five-prepared, four-prepared, ten-prepared}
 
