@@ -1,5 +1,6 @@
 -- Worked: document 01's starred cases.
 pub mod Case
 pub mod Check
+pub mod Axes
 pub mod Starred
 pub mod Instances

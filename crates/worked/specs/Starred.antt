@@ -7,12 +7,18 @@ use Rattle.checking.specs.Rule.{stepOf, closeOf, accepted, nameless, secondRoot
 use Rattle.checking.specs.Turn.{turnWithin, lengthFault}
 use Rattle.trees.specs.Signature.{cell}
 use Rattle.worked.specs.Case.{Case}
+use Rattle.xpath.specs.Select.{upTo, some, rises, within}
+use Rattle.xpath.specs.Axes.{met, parentOf, ancestorOrSelf, wholeBefore, siblingBefore, onAxis, passes, chosen, pth, kept}
+use Rattle.axes.specs.Checked.{afterCheck}
+use Rattle.axes.specs.Axis.{argumentsFine, roomFor, axisWithin}
 use Rattle.worked.specs.Check as Check
+use Rattle.worked.specs.Axes as Axes
 
 -- every starred case
 abbrev pub cases : List Case
-cases = Check.cases
+cases = Check.cases ++ Axes.cases
 
 pub starred : map (λ (c : Case). c .got) cases ≡ map (λ (c : Case). c .wanted) cases
 unfolding run turnWithin lengthFault inRange stepOf closeOf nameless secondRoot accepted cell
+    upTo some rises within met parentOf ancestorOrSelf wholeBefore siblingBefore onAxis passes chosen pth kept afterCheck argumentsFine roomFor axisWithin
 starred = refl
