@@ -1,0 +1,3 @@
+-- Retold: theorems over the promises of the record calls.
+pub mod Rooms
+pub mod Taken
