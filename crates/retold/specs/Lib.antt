@@ -3,3 +3,4 @@ pub mod Rooms
 pub mod Taken
 pub mod Names
 pub mod Sound
+pub mod Complete
