@@ -1,3 +1,6 @@
 -- Retold: theorems over the promises of the record calls.
 pub mod Rooms
 pub mod Taken
+pub mod Names
+pub mod Sound
+pub mod Complete
