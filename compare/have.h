@@ -2,12 +2,12 @@
 #ifndef HAVE_H
 #define HAVE_H
 #define HAVE_CHECK 1
+#define HAVE_AXES 1
+#define HAVE_PREPARE 1
+#define HAVE_WALK 1
 #ifdef ALONE
 #define HAVE_RECORDS 1
 #define HAVE_TAGS 1
-#define HAVE_AXES 1
 #define HAVE_ORDERED 1
-#define HAVE_PREPARE 1
-#define HAVE_WALK 1
 #endif
 #endif
