@@ -2,6 +2,7 @@
 --   open-passes, close-passes   a tag that stands in the bytes is passed
 --   row-passes                  nested tags are passed
 --   scan-complete               so is the tag list of a tree of the kind
+--   numbers-there               and its numbers are the tree's signature
 use Prim.Native.Nat.{ℕ, zero, suc, _+_, _-_, _*_, _/_, _%_, _≤_, _<_}
 use mathlib.Core.Path.{_≡_, refl, ap, _∙_, sym, subst}
 use mathlib.Core.Bool.{Bool, true, false}
@@ -11,17 +12,20 @@ use lib.ListN.{length, getD, drop, length-drop}
 use lib.Seq.{drop-drop, getD-drop}
 use Rattle.turns.specs.Turn.{moved, Moves, stay, move, Halt, Turned}
 use Rattle.trees.specs.Tree.{Forest, none, elem, Tree, size, whole, NotZero, Allowed, Grown}
-use Rattle.trees.specs.Tags.{Tag, opens, closes, tagsOf, treeTags, Nested}
+use Rattle.trees.specs.Signature.{signature}
+use Rattle.trees.specs.Tags.{Tag, opens, closes, tagsOf, treeTags, treeOf, Nested}
+use Rattle.trees.specs.TagLaws.{tags-length, tags-read}
 use Rattle.trees.specs.Nesting.{tree-nested}
 use Rattle.records.specs.declared.Scan.{Scan}
 use Rattle.records.specs.Bytes.{numberAt, low, high, marked}
 use Rattle.records.specs.Scans.{begin, stepBy, haltNumber}
-use Rattle.records.specs.TagLists.{opening, closing, rootClosed, namelessAt, tagFault, tagNext, treeEnd, treeScan, tagBytes}
+use Rattle.records.specs.TagLists.{opening, closing, rootClosed, namelessAt, tagFault, tagNext, treeEnd, treeScan, tagBytes, tagsFrom, treeNumbers, numbersIn}
 use Rattle.records.proofs.Faults.{marked-yes, marked-first}
 use Rattle.records.proofs.Scanning.{step-passed, passed-grow, scan-ended}
 use Rattle.records.proofs.TagFaults.{closed-open, closed-none, closed-yes, end-open, end-here, end-last, nameless-any, nameless-other, open-fine, close-fine, next-open, next-close}
 use Rattle.records.proofs.Judging.{Tagged, tag-passes}
 use Rattle.records.proofs.Emit.{tag-bytes-length}
+use Rattle.records.proofs.Build.{tags-open, tags-close, tags-none}
 use Rattle.retold.specs.Names.{TagNames, opensIn, opens-row, row-names}
 
 module _ (b : List ℕ) where
@@ -36,6 +40,34 @@ module _ (b : List ℕ) where
 
   later : (p k : ℕ) (l : List ℕ) → drop p b ≡ l → drop (p + k) b ≡ drop k l
   later p k l e = sym (drop-drop k p b) ∙ ap (drop k) e
+
+  -- the tag that stands there
+  opens-there : (p a : ℕ) (r : List ℕ) → drop p b ≡ 79 ∷ 80 ∷ low a ∷ high a ∷ r → (opening b p ≡ true) × (numberAt b (p + 2) ≡ a)
+  opens-there p a r e =
+      let two : getD b (p + 2) 0 ≡ low a = byte p 2 _ e in
+      let q : p + 2 + 1 ≡ p + 3 = omega arith in
+      let three : getD b (p + 2 + 1) 0 ≡ high a = ap (λ (x : ℕ). getD b x 0) q ∙ byte p 3 _ e in
+      (marked-yes b p 79 80 (first p _ e) (byte p 1 _ e), omega arith)
+
+  closes-there : (p : ℕ) (r : List ℕ) → drop p b ≡ 67 ∷ 76 ∷ r → opening b p ≡ false
+  closes-there p r e = let x = first p _ e in marked-first b p 79 80 (λ z. omega (arith, x))
+
+  -- the tags that stand there are read as these tags
+  pub tags-there : (l : List Tag) (p : ℕ) (rest : List ℕ) → drop p b ≡ tagBytes l ++ rest → tagsFrom b (length l) p ≡ l
+  unfolding tagBytes
+  tags-there [] p rest e = tags-none b 0 p refl
+  tags-there (opens a ∷ l) p rest e =
+      let o = opens-there p a (tagBytes l ++ rest) e in
+      tags-open b (length l) p (o .0) ∙ ap (λ (x : ℕ). opens x ∷ tagsFrom b (length l) (p + 4)) (o .1)
+      ∙ ap (opens a ∷_) (tags-there l (p + 4) rest (later p 4 _ e))
+  tags-there (closes ∷ l) p rest e =
+      tags-close b (length l) p (closes-there p (tagBytes l ++ rest) e) ∙ ap (closes ∷_) (tags-there l (p + 2) rest (later p 2 _ e))
+
+  -- the tag list of a tree, read, is its signature
+  pub numbers-there : (t : Tree) (p : ℕ) (rest : List ℕ) → drop p b ≡ tagBytes (treeTags t) ++ rest → numbersIn b p (size (whole t)) ≡ signature t
+  numbers-there t p rest e =
+      ap (λ (x : ℕ). treeNumbers (treeOf (tagsFrom b x p))) (sym (tags-length (whole t)))
+      ∙ ap (λ (l : List Tag). treeNumbers (treeOf l)) (tags-there (treeTags t) p rest e) ∙ ap treeNumbers (tags-read t)
 
 module _ (all any : Bool) (most : ℕ) (b : List ℕ) where
   -- the name that opens is allowed

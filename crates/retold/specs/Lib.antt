@@ -4,3 +4,7 @@ pub mod Taken
 pub mod Names
 pub mod Sound
 pub mod Complete
+pub mod Ends
+pub mod Exact
+pub mod There
+pub mod RecordsThere
