@@ -8,3 +8,4 @@ pub mod Ends
 pub mod Exact
 pub mod There
 pub mod RecordsThere
+pub mod ShutOut
