@@ -3,6 +3,8 @@ ghost use mathlib.Core.Path.{_≡_};
 ghost use Prim.Native.Nat.{ℕ};
 ghost use Rattle.checking.specs.Stops.{told, answered};
 ghost use Rattle.kiosk.specs.Numbers.{kindOf, TurnTold, AnswerTold};
+ghost use Rattle.kiosk.specs.Records.{ReadNumbers, WriteNumbers, TagsNumbers, BackNumbers};
+ghost use Rattle.kiosk.specs.Ordered.{OrderedNumbers};
 ghost use Rattle.kiosk.specs.Check.{CheckTurnPromise};
 ghost use Rattle.kiosk.specs.Axes.{LevelSaid, PlaceSaid, LevelNumbers, PlaceNumbers, AxisNumbers};
 ghost use Rattle.kiosk.specs.Prepare.{StartSaid, StartNumbers, PrepareTurnPromise};
@@ -124,6 +126,44 @@ fn tell_start(answer: Started, out: &mut [u64; 1]) -> u16
     }
 }
 
+// Signature records to numbers. out: numbers written, 0.
+#[no_mangle]
+pub extern "C" fn ib_read_records(bytes: &[u8], room: &mut [u16], out: &mut [u64; 2]) -> u16
+    ensures { λ r. ⌜ ReadNumbers (now (bytes .entry)) (now (room .entry)) r (now (room .exit)) (now (out .exit)) ⌝ }
+{
+    let answer = records::read_records(bytes, room);
+    tell_written(answer, out)
+}
+
+// A signature to signature records. out: bytes written, 0.
+#[no_mangle]
+pub extern "C" fn ib_write_records(sig: &[u16], room: &mut [u8], out: &mut [u64; 2]) -> u16
+    ensures { λ r. ⌜ WriteNumbers (now (sig .entry)) (now (room .entry)) r (now (room .exit)) (now (out .exit)) ⌝ }
+{
+    let answer = records::write_records(sig, room);
+    tell_written(answer, out)
+}
+
+// A tag list to a signature. out: numbers written, 0.
+#[no_mangle]
+pub extern "C" fn ib_tags_to_signature(kind: u16, bytes: &[u8], room: &mut [u16], out: &mut [u64; 2]) -> u16
+    ensures { λ r. ⌜ TagsNumbers kind (now (bytes .entry)) (now (room .entry)) r (now (room .exit)) (now (out .exit)) ⌝ }
+{
+    let which = kind_of(kind);
+    let answer = records::tags_to_signature(which, bytes, room);
+    tell_written(answer, out)
+}
+
+// A signature back to its tag list. out: bytes written, entry.
+#[no_mangle]
+pub extern "C" fn ib_signature_to_tags(kind: u16, sig: &[u16], room: &mut [u8], out: &mut [u64; 2]) -> u16
+    ensures { λ r. ⌜ BackNumbers kind (now (sig .entry)) (now (room .entry)) r (now (room .exit)) (now (out .exit)) ⌝ }
+{
+    let which = kind_of(kind);
+    let answer = records::signature_to_tags(which, sig, room);
+    tell_written(answer, out)
+}
+
 // A turn of the check on a lent state: next, top, closed. out: stop, steps, entry.
 #[no_mangle]
 pub extern "C" fn ib_check_turn(kind: u16, sig: &[u16], state: &mut [u16; 3], budget: u64, out: &mut [u64; 3]) -> u16
@@ -183,6 +223,25 @@ pub extern "C" fn ib_axis(
     }
 {
     let answer = axes::axis(sig, contexts, axis, name, position, room);
+    tell_written(answer, out)
+}
+
+// The least ordered answer greater than the tuple. out: m, or 0 for none, entry.
+#[no_mangle]
+pub extern "C" fn ib_ordered_next(
+    sig: &[u16],
+    twig: &[u16],
+    tuple: &[u16],
+    room: &mut [u16],
+    out: &mut [u64; 2],
+) -> u16
+    ensures {
+        λ r. ⌜
+            OrderedNumbers (now (sig .entry)) (now (twig .entry)) (now (tuple .entry)) (now (room .entry)) r (now (room .exit))
+            (now (out .exit)) ⌝
+    }
+{
+    let answer = ordered::ordered_next(sig, twig, tuple, room);
     tell_written(answer, out)
 }
 
