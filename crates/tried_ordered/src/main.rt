@@ -46,31 +46,63 @@ fn asked(label: &[u8], sig: &[u16], twig: &[u16], tuple: &[u16], room: &mut [u16
     numbers(&*room, len);
 }
 
+// An answer to hand back, or the end.
+struct Given {
+    tuple: [u16; 16],
+    more: bool,
+}
+
+// The first m numbers, or all of them.
+fn front(tuple: &[u16], m: usize) -> &[u16] {
+    if m <= tuple.len() {
+        &tuple[0..m]
+    } else {
+        tuple
+    }
+}
+
+// The answer after a tuple, printed.
+fn one_more(sig: &[u16], twig: &[u16], tuple: [u16; 16]) -> Given {
+    let mut room = [0u16; 16];
+    let m = twig.len() / 4;
+    let asked_for = front(&tuple, m);
+    let answer = ordered::ordered_next(sig, twig, asked_for, &mut room);
+    match answer {
+        Written::Length(len) => {
+            if len == 0 {
+                line(b"none");
+                return Given {
+                    tuple,
+                    more: false,
+                };
+            }
+            numbers(&room, len);
+            Given {
+                tuple: room,
+                more: true,
+            }
+        }
+        Written::Refused(_) => {
+            line(b"refused");
+            Given {
+                tuple,
+                more: false,
+            }
+        }
+    }
+}
+
 // Every answer from zeros on, each handed back; no tree tried here has 100.
 fn listed(label: &[u8], sig: &[u16], twig: &[u16]) {
     line(label);
-    let m = twig.len() / 4;
-    if 16 < m {
-        return;
-    }
     let mut tuple = [0u16; 16];
-    let mut room = [0u16; 16];
-    for _ in 0..100 {
-        let answer = ordered::ordered_next(sig, twig, &tuple[..m], &mut room);
-        match answer {
-            Written::Length(len) => {
-                if len == 0 {
-                    line(b"none");
-                    return;
-                }
-                numbers(&room, len);
-            }
-            Written::Refused(_) => {
-                line(b"refused");
-                return;
-            }
+    for i in 0..100u16 {
+        let given = one_more(sig, twig, tuple);
+        if !given.more {
+            return;
         }
-        tuple = room;
+        let next = given.tuple;
+        tuple = next;
     }
     line(b"more");
 }
@@ -97,78 +129,96 @@ fn after(sig: &[u16], twig: &[u16], a: u16, b: u16) {
 // What follows every tuple of two numbers up to 6.
 fn all_pairs(label: &[u8], sig: &[u16], twig: &[u16]) {
     line(label);
-    for a in 0..7u16 {
-        for b in 0..7u16 {
-            after(sig, twig, a, b);
-        }
+    for i in 0..49u16 {
+        after(sig, twig, i / 7, i % 7);
     }
 }
 
-fn store(sig: &mut [u16], at: usize, x: usize) {
-    if at < sig.len() {
-        sig[at] = (x % 65536) as u16;
+// A chain of 4,096 entries of one name.
+fn long_chain() -> [u16; 16384] {
+    let mut sig = [0u16; 16384];
+    for i in 0..4096u16 {
+        let at = 4 * (i as usize);
+        sig[at] = 1;
+        sig[at + 1] = 4096 - i;
+        sig[at + 2] = 4097;
+        sig[at + 3] = i;
     }
+    sig
 }
 
-fn put(sig: &mut [u16], i: usize, post: usize, ff: usize, fa: usize) {
-    if i < 1 {
-        return;
+// A root with 4,095 children of its name.
+fn broad_tree() -> [u16; 16384] {
+    let mut sig = [0u16; 16384];
+    for i in 0..4096u16 {
+        let at = 4 * (i as usize);
+        sig[at] = 1;
+        sig[at + 1] = i;
+        sig[at + 2] = i + 2;
+        sig[at + 3] = 1;
     }
-    if 5000 < i {
-        return;
-    }
-    let first = 4 * (i - 1);
-    store(&mut *sig, first, 1);
-    store(&mut *sig, first + 1, post);
-    store(&mut *sig, first + 2, ff);
-    store(&mut *sig, first + 3, fa);
+    sig[1] = 4096;
+    sig[2] = 4097;
+    sig[3] = 0;
+    sig
 }
 
-// A chain of n entries of one name.
-fn chain(sig: &mut [u16], n: usize) {
-    if 5000 < n {
-        return;
+// A chain of 16 nodes, whose last node has this name.
+fn chain_twig(last: u16) -> [u16; 64] {
+    let mut twig = [0u16; 64];
+    for i in 0..16u16 {
+        let at = 4 * (i as usize);
+        twig[at] = 1;
+        twig[at + 1] = 16 - i;
+        twig[at + 2] = 17;
+        twig[at + 3] = i;
     }
-    for i in 1..n + 1 {
-        put(&mut *sig, i, n + 1 - i, n + 1, i - 1);
-    }
+    twig[60] = last;
+    twig
 }
 
-// A root with all others as its children.
-fn broad(sig: &mut [u16], n: usize) {
-    if 5000 < n {
-        return;
+// A root with 15 children, the last of which has this name.
+fn broad_twig(last: u16) -> [u16; 64] {
+    let mut twig = [0u16; 64];
+    for i in 0..16u16 {
+        let at = 4 * (i as usize);
+        twig[at] = 1;
+        twig[at + 1] = i;
+        twig[at + 2] = i + 2;
+        twig[at + 3] = 1;
     }
-    put(&mut *sig, 1, n, n + 1, 0);
-    for i in 2..n + 1 {
-        put(&mut *sig, i, i - 1, i + 1, 1);
-    }
+    twig[1] = 16;
+    twig[2] = 17;
+    twig[3] = 0;
+    twig[60] = last;
+    twig
 }
 
 // The chain of 4,096 equal names with a 16-node chain whose last name does not occur; then one that occurs; then a broad tree.
-fn large() {
-    let mut sig = [0u16; 16384];
-    let mut twig = [0u16; 64];
-    chain(&mut sig, 4096);
-    chain(&mut twig, 16);
-    let zeros = [0u16; 16];
+fn large(label: &[u8], sig: [u16; 16384], twig: [u16; 64], tuple: [u16; 16]) {
     let mut room = [7u16; 17];
-    twig[60] = 2;
-    asked(b"chain, last name missing", &sig, &twig, &zeros, &mut room);
-    twig[60] = 1;
-    asked(b"chain", &sig, &twig, &zeros, &mut room);
+    asked(label, &sig, &twig, &tuple, &mut room);
+}
+
+fn all_large() {
+    let zeros = [0u16; 16];
     let last = [4081u16, 4082, 4083, 4084, 4085, 4086, 4087, 4088, 4089, 4090, 4091, 4092, 4093, 4094, 4095, 4095];
-    asked(b"chain, before the last", &sig, &twig, &last, &mut room);
     let end = [4081u16, 4082, 4083, 4084, 4085, 4086, 4087, 4088, 4089, 4090, 4091, 4092, 4093, 4094, 4095, 4096];
-    asked(b"chain, the last", &sig, &twig, &end, &mut room);
-    let wide_tuple = [1u16, 2, 3, 4, 5, 6, 7, 8, 9, 10, 11, 12, 13, 14, 4095, 4096];
-    asked(b"chain, carried over", &sig, &twig, &wide_tuple, &mut room);
-    broad(&mut sig, 4096);
-    broad(&mut twig, 16);
-    asked(b"broad", &sig, &twig, &zeros, &mut room);
-    asked(b"broad, no answer given", &sig, &twig, &last, &mut room);
-    twig[60] = 2;
-    asked(b"broad, last name missing", &sig, &twig, &zeros, &mut room);
+    let over = [1u16, 2, 3, 4, 5, 6, 7, 8, 9, 10, 11, 12, 13, 14, 4095, 4096];
+    large(b"chain, last name missing", long_chain(), chain_twig(2), zeros);
+    large(b"chain", long_chain(), chain_twig(1), zeros);
+    large(b"chain, before the last", long_chain(), chain_twig(1), last);
+    large(b"chain, the last", long_chain(), chain_twig(1), end);
+    large(b"chain, carried over", long_chain(), chain_twig(1), over);
+    large(b"broad", broad_tree(), broad_twig(1), zeros);
+    large(b"broad, no answer given", broad_tree(), broad_twig(1), last);
+    large(b"broad, last name missing", broad_tree(), broad_twig(2), zeros);
+}
+
+// A call with a room of three numbers.
+fn in_three(label: &[u8], sig: &[u16], twig: &[u16], tuple: &[u16]) {
+    let mut room = [8u16, 9, 10];
+    asked(label, sig, twig, tuple, &mut room);
 }
 
 fn main() {
@@ -192,28 +242,28 @@ fn main() {
     listed(b"one, 1(1)", &one, &under);
     all_pairs(b"five, 1(1), every tuple and 6", &five, &under);
     let mut two = [8u16, 9];
-    let mut wider = [8u16, 9, 10];
     let mut small = [8u16];
-    let mut empty = [0u16; 0];
+    let mut no_room = [0u16; 0];
+    let empty = [0u16; 0];
     let zeros = [0u16, 0];
     let last = [3u16, 5];
     asked(b"exact room", &five, &under, &zeros, &mut two);
-    asked(b"wider room", &five, &under, &zeros, &mut wider);
+    in_three(b"wider room", &five, &under, &zeros);
     asked(b"one short", &five, &under, &zeros, &mut small);
-    asked(b"none with room 0", &five, &under, &last, &mut empty);
+    asked(b"none with room 0", &five, &under, &last, &mut no_room);
     let short = [0u16];
     let over = [1u16, 6];
     let cut = [1u16, 5, 6];
     let wrong_post = [5u16, 1, 3, 0, 5, 2, 3, 1];
     let nameless = [0u16, 1, 2, 0];
-    asked(b"tuple of 1", &five, &under, &short, &mut wider);
-    asked(b"number over n", &five, &under, &over, &mut wider);
-    asked(b"signature cut", &cut, &under, &over, &mut wider);
-    asked(b"signature with a wrong post", &wrong_post, &under, &over, &mut wider);
-    asked(b"signature with name 0", &nameless, &under, &over, &mut wider);
-    asked(b"twig cut", &cut, &cut, &over, &mut wider);
-    asked(b"twig with a wrong post", &cut, &wrong_post, &over, &mut wider);
-    asked(b"twig empty", &five, &empty, &over, &mut wider);
-    asked(b"signature empty", &empty, &under, &over, &mut wider);
-    large();
+    in_three(b"tuple of 1", &five, &under, &short);
+    in_three(b"number over n", &five, &under, &over);
+    in_three(b"signature cut", &cut, &under, &over);
+    in_three(b"signature with a wrong post", &wrong_post, &under, &over);
+    in_three(b"signature with name 0", &nameless, &under, &over);
+    in_three(b"twig cut", &cut, &cut, &over);
+    in_three(b"twig with a wrong post", &cut, &wrong_post, &over);
+    in_three(b"twig empty", &five, &empty, &over);
+    in_three(b"signature empty", &empty, &under, &over);
+    all_large();
 }
