@@ -11,14 +11,24 @@ use Rattle.xpath.specs.Select.{upTo, some, rises, within}
 use Rattle.xpath.specs.Axes.{met, parentOf, ancestorOrSelf, wholeBefore, siblingBefore, onAxis, passes, chosen, pth, kept}
 use Rattle.axes.specs.Checked.{afterCheck}
 use Rattle.axes.specs.Axis.{argumentsFine, roomFor, axisWithin}
+use Rattle.trees.specs.Tags.{tagsOf, opened, closed, rowsOf, oneTree, treeOf}
+use Rattle.records.specs.Bytes.{marked}
+use Rattle.records.specs.Scans.{stepBy}
+use Rattle.records.specs.Room.{leftBy}
+use Rattle.records.specs.Records.{recordFault, recordsEnd, numbersFrom, bytesFrom, namelessFrom, writeFault}
+use Rattle.records.specs.TagLists.{tagBytes, rootClosed, namelessAt, misnested, tagFault, tagNext, treeEnd, tagsFrom}
+use Rattle.records.specs.TagsBack.{rowFrom, backLeft}
 use Rattle.worked.specs.Check as Check
 use Rattle.worked.specs.Axes as Axes
+use Rattle.worked.specs.Records as Records
 
 -- every starred case
 abbrev pub cases : List Case
-cases = Check.cases ++ Axes.cases
+cases = Check.cases ++ Axes.cases ++ Records.cases
 
 pub starred : map (λ (c : Case). c .got) cases ≡ map (λ (c : Case). c .wanted) cases
 unfolding run turnWithin lengthFault inRange stepOf closeOf nameless secondRoot accepted cell
     upTo some rises within met parentOf ancestorOrSelf wholeBefore siblingBefore onAxis passes chosen pth kept afterCheck argumentsFine roomFor axisWithin
+    tagsOf opened closed rowsOf oneTree treeOf marked stepBy leftBy recordFault recordsEnd numbersFrom bytesFrom namelessFrom writeFault
+    tagBytes rootClosed namelessAt misnested tagFault tagNext treeEnd tagsFrom rowFrom backLeft
 starred = refl
