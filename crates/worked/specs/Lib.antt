@@ -2,5 +2,6 @@
 pub mod Case
 pub mod Check
 pub mod Axes
+pub mod Loose
 pub mod Starred
 pub mod Instances
