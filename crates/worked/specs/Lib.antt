@@ -3,5 +3,6 @@ pub mod Case
 pub mod Check
 pub mod Axes
 pub mod Records
+pub mod Loose
 pub mod Starred
 pub mod Instances
