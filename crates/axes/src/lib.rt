@@ -267,13 +267,13 @@ fn mark_context(sig: &[u16], n: u16, axis: u16, test: u16, p: u16, c: u16, marks
     requires { ⌜ Ready (now sig) n × (axis ≤ 10) × (1 ≤ c) × (c ≤ n) × (length (now marks) ≡ 4097) ⌝ }
     ensures { λ _. ⌜ Marks n (λ j. marked (now (marks .entry)) j || kept p (chosen axis n (entriesOf width (now (sig .entry)) .fa) (entriesOf width (now (sig .entry)) .name) test c) j) (now (marks .exit)) ⌝ }
 {
-    let mut count: u16 = 0;
+    let mut met: u16 = 0;
     let mut j: u16 = 0;
     while j < n {
         j += 1;
         if is_chosen(sig, n, axis, test, c, j) {
-            count += 1;
-            if is_kept(p, count) {
+            met += 1;
+            if is_kept(p, met) {
                 let at = j as usize;
                 marks[at] = 1;
             }

@@ -1,9 +1,10 @@
 -- The list of all loose answers, and the walk over a right table lists it.
 --   rank-image         the rank that an answer gives a node is the node's image
+--   smaller-never, smaller-trans   the order of answers is strict
 --   loose-sound, loose-complete, loose-ascending, loose-once, loose-unique   looseAnswers has just the loose answers, ascending, each once
 --   Bits pass          pass says of each node and entry whether there is a match: what a right table's bits say
 --   bits-bounded       then no range fails below
---   bits-listed        and the walk's answers are the loose answers
+--   bits-same, bits-listed   and the walk's answers are the loose answers
 use Prim.Native.Nat.{ℕ, suc, _-_, _≤_, _<_}
 use mathlib.Core.Path.{_≡_, refl, ap, _∙_, sym, subst}
 use mathlib.Core.Logic.{_↔_}
@@ -100,7 +101,8 @@ module _ (n m : ℕ) (e w : Entries) (tree : Facts n e) (twig : Facts m w) where
       let z = Memᴰ·of-map reverse (answersFrom names m []) h in
       let i = plain-exactly names (choices-plain n e w (byName e w)) m (z .0) .0 (z .1) in
       subst (LooseAnswer n m e w) (z .2)
-      (nodes-answer (z .0) (i .0) (λ q a b. nodes-of n m e w tree twig (byName e w) (z .0) (omega (arith, i .0)) (i .1) q a (omega (arith, i .0))))
+      (nodes-answer (z .0) (i .0) (λ q a b. nodes-of n m e w tree twig (byName e w) (z .0) (omega (arith, i .0)) (i .1) q a
+          (omega (arith, i .0))))
 
   -- and every loose answer is listed
   pub loose-complete : (l : List ℕ) → LooseAnswer n m e w l → List·Memᴰ l (looseAnswers n m e w)
@@ -125,7 +127,8 @@ module _ (n m : ℕ) (e w : Entries) (tree : Facts n e) (twig : Facts m w) where
       pairs-weaken (λ y z l k. smaller-never z (subst (λ (x : List ℕ). Smaller x z) k l)) (looseAnswers n m e w) loose-ascending
 
   -- and any ascending list of just the loose answers is this one
-  pub loose-unique : (l : List (List ℕ)) → Pairs Smaller l → ((z : List ℕ) → List·Memᴰ z l ↔ LooseAnswer n m e w z) → l ≡ looseAnswers n m e w
+  pub loose-unique : (l : List (List ℕ)) → Pairs Smaller l → ((z : List ℕ) → List·Memᴰ z l ↔ LooseAnswer n m e w z)
+      → l ≡ looseAnswers n m e w
   loose-unique l p h =
       pairs-unique Smaller smaller-never smaller-trans l (looseAnswers n m e w) p loose-ascending
       (λ z k. loose-complete z (h z .0 k)) (λ z k. h z .1 (loose-sound z k))
@@ -155,7 +158,8 @@ module _ (n m : ℕ) (e w : Entries) (tree : Facts n e) (twig : Facts m w) where
     names-bits : (z : List ℕ) → LooseAnswer n m e w (reverse z) → (q : ℕ) → 1 ≤ q → q ≤ m → NodeFits n m e w tree twig pass z q
     names-bits z g q a b =
         let h = answer-nodes z g q a b in
-        let k : Match n m e w q (imageOf z q) = subst (Match n m e w q) (rank-image z q a) (answer-match n m e w twig (reverse z) g q a b) in
+        let k : Match n m e w q (imageOf z q) = subst (Match n m e w q) (rank-image z q a)
+            (answer-match n m e w twig (reverse z) g q a b) in
         record {
           above = h .above;
           high = h .high;
@@ -196,9 +200,11 @@ module _ (n m : ℕ) (e w : Entries) (tree : Facts n e) (twig : Facts m w) where
         let k = suc (suc (length xs)) in
         let up : 1 ≤ w .fa k = twig .inner k (omega arith) l in
         let f : w .fa k < k = twig .each k (omega arith) l .fa-high in
-        let p = nodes-of n m e w tree twig pass z (omega arith) (plain-good walked (choices-plain n e w pass) z .0 g) (w .fa k) up (omega arith) in
+        let p = nodes-of n m e w tree twig pass z (omega arith) (plain-good walked (choices-plain n e w pass) z .0 g) (w .fa k) up
+            (omega arith) in
         let q = imageOf z (w .fa k) in
-        let c = under (w .fa k) k q (omega arith) l refl (bits (w .fa k) q up (omega arith) (omega (arith, p .above)) (p .high) .0 (p .test)) in
+        let c = under (w .fa k) k q (omega arith) l refl
+            (bits (w .fa k) q up (omega arith) (omega (arith, p .above)) (p .high) .0 (p .test)) in
         let t = tree .each q (omega (arith, p .above)) (p .high) in
         (c .0, inside-fits walked (choices-plain n e w pass)
           (record {

@@ -1,10 +1,11 @@
 -- Masks bit by bit.
+--   and-true, true-and, or-true, true-left, true-right   tests taken together
 --   or-bit       a joined mask has a bit where one of the two has it
 --   mask-bit     the mask of a test has the bit of q exactly if the test holds of q
 --   zero-bit     0 has no bit
 --   every-each, each-every   a test holds of 1 to m exactly if it holds of each
 --   passes-true, true-passes   the name test, computed
---   stands-each, each-stands   when a twig node can stand at an entry
+--   stands-each, each-stands, can-bit   when a twig node can stand at an entry, and has its bit in can
 use Prim.Native.Nat.{ℕ, zero, suc, _+_, _-_, _*_, _/_, _%_, _^_, _≤_, _<_}
 use mathlib.Core.Path.{_≡_, refl, ap, _∙_}
 use mathlib.Core.Logic.{_⊎_, inl, inr}

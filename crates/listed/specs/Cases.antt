@@ -4,8 +4,12 @@
 --   ten, eight           Ten, and the twig 8(9,10), which has one answer
 --   prepBack, walkBack   what the code hands back for a turn of the rule
 --   prep-handed, walk-handed   that is what the promise asks
---   five-accepted, …     each signature and twig is accepted
---   five-prepared, …     and prepared: Five in two turns, the others in one
+--   five-accepted, four-accepted, ten-accepted   each signature and twig is accepted
+--   back                 what a turn of preparing hands back, by its numbers
+--   lentFor, clearedFor  the table that is lent, and what the start call leaves of it
+--   fiveTable, fourTable, tenTable   what preparing leaves
+--   five-start, five-turns   the start call for Five, and two turns
+--   five-prepared, four-prepared, ten-prepared   each is prepared: Five in two turns, the others in one
 use Prim.Native.Nat.{ℕ, _+_, _*_}
 use mathlib.Core.Path.{refl}
 use mathlib.Core.List.{List, [], _∷_}
@@ -106,10 +110,12 @@ five-start = record { answer = refl; leaves = refl }
 
 -- two turns, of 2 steps and of at most 9
 pub five-turns : PrepTurns five oneOne (record { state = prepAt 5; table = clearedFor 5 }) 11 5 (back 0 3 Stop.End fiveTable)
-unfolding begun ready givenOf turnWithin lengthFault check.inRange run check.stepOf check.closeOf check.nameless check.secondRoot check.accepted cell
+unfolding begun ready givenOf turnWithin lengthFault check.inRange run check.stepOf check.closeOf check.nameless check.secondRoot
+    check.accepted cell
     every hasBit mask put passes childrenIn stands canOf badParent written joined stepTable prepStep cleared
 five-turns =
-    more {b = 2} {r = back 3 2 Stop.Budget (0 ∷ 0 ∷ 0 ∷ 0 ∷ 0 ∷ 2 ∷ 2 ∷ 0 ∷ 2 ∷ 0 ∷ 7 ∷ [])} (record { state = refl; steps = refl; stop = refl; leaves = refl })
+    more {b = 2} {r = back 3 2 Stop.Budget (0 ∷ 0 ∷ 0 ∷ 0 ∷ 0 ∷ 2 ∷ 2 ∷ 0 ∷ 2 ∷ 0 ∷ 7 ∷ [])}
+        (record { state = refl; steps = refl; stop = refl; leaves = refl })
     (one {b = 9} (record { state = refl; steps = refl; stop = refl; leaves = refl }))
 
 pub five-prepared : Prepared five oneOne fiveTable

@@ -4,7 +4,9 @@
 --   choices n e w pass the walk, where pass tests a candidate for a node
 --   byName e w         the test by names alone
 --   looseAnswers n m e w   all loose answers, ascending, in twig preorder: by names alone, so that no table is named
+--   choices-plain      it goes by ones
 --   NodeFits           what the walk asks of one node's image
+--   end-high           the range of the next node ends at n+1 or before
 --   nodes-of, of-nodes the images are in range exactly if each node's is
 use Prim.Native.Nat.{ℕ, suc, _+_, _≤_, _<_}
 use mathlib.Core.Path.{_≡_, refl, sym, subst}

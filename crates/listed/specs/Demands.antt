@@ -2,6 +2,7 @@
 --   Preparer, Walker       any turn of preparing, any turn of walking
 --   PrepCalls, WalkCalls   calls one after the other, each given what the one before handed back
 --   PrepTwo, WalkTwo       demand 2: the table is right where the end is reported; the answers told are the list of all loose answers
+--   reading                the state and the table that a turn of preparing is given
 --   PrepThree, WalkThree   demand 3: each turn is what document 01 says of a turn of the written rule
 --   ours-prep-two, ours-walk-two, ours-prep-three, ours-walk-three   whatever keeps our promises meets them
 --   prep-three-turn, walk-three-turn   demand 3 leaves one turn only
@@ -54,18 +55,23 @@ WalkCalls call s tw table w B K r = Chain Walk WalkTurn (λ b from t. t ≡ call
 
 -- from what the start call left: the table is right where the end is reported, and it is reported where n steps may be spent
 pub record PrepTwo (call : Preparer) : Type 0 where
-  pub sound : (s tw lent left : List ℕ) (p : Prep) → Accepted s tw → StartPromise (entries s) lent (Started.Fresh p) left → {B K : ℕ} {r : PrepBack}
+  pub sound : (s tw lent left : List ℕ) (p : Prep) → Accepted s tw → StartPromise (entries s) lent (Started.Fresh p) left
+      → {B K : ℕ} {r : PrepBack}
       → PrepCalls call s tw (record { state = p; table = left }) B K r → r .turn .stop ≡ Stop.End → TableSays s tw (r .left)
-  pub complete : (s tw lent left : List ℕ) (p : Prep) → Accepted s tw → StartPromise (entries s) lent (Started.Fresh p) left → {B K : ℕ} {r : PrepBack}
+  pub complete : (s tw lent left : List ℕ) (p : Prep) → Accepted s tw → StartPromise (entries s) lent (Started.Fresh p) left
+      → {B K : ℕ} {r : PrepBack}
       → PrepCalls call s tw (record { state = p; table = left }) B K r → entries s ≤ B → r .turn .stop ≡ Stop.End
 
 -- over a prepared table, from the fresh walk: "the answers told, in order, are the ascending list" and then the end
 pub record WalkTwo (call : Walker) : Type 0 where
-  pub front : (s tw left : List ℕ) → Accepted s tw → Prepared s tw left → {B K : ℕ} {r : WalkTurn} (c : WalkCalls call s tw left fresh B K r)
+  pub front : (s tw left : List ℕ) → Accepted s tw → Prepared s tw left
+      → {B K : ℕ} {r : WalkTurn} (c : WalkCalls call s tw left fresh B K r)
       → (rest : List (List ℕ)) × (told (tellOf (entries tw)) c ++ rest ≡ allLoose s tw)
-  pub whole : (s tw left : List ℕ) → Accepted s tw → Prepared s tw left → {B K : ℕ} {r : WalkTurn} (c : WalkCalls call s tw left fresh B K r)
+  pub whole : (s tw left : List ℕ) → Accepted s tw → Prepared s tw left
+      → {B K : ℕ} {r : WalkTurn} (c : WalkCalls call s tw left fresh B K r)
       → r .stop ≡ Stop.End → told (tellOf (entries tw)) c ≡ allLoose s tw
-  pub arrives : (s tw left : List ℕ) → Accepted s tw → Prepared s tw left → {B K : ℕ} {r : WalkTurn} (c : WalkCalls call s tw left fresh B K r)
+  pub arrives : (s tw left : List ℕ) → Accepted s tw → Prepared s tw left
+      → {B K : ℕ} {r : WalkTurn} (c : WalkCalls call s tw left fresh B K r)
       → AllButLast (λ u. u .stop ≡ Stop.Budget) c → 2 * (entries tw * entries s) + 1 ≤ B → (r .stop ≡ Stop.Answer) ⊎ (r .stop ≡ Stop.End)
 
 -- ---- demand 3
@@ -90,12 +96,14 @@ WalkThree call =
 
 -- ---- chains of calls that keep a promise
 
-module _ {S R : Type 0} {P Q : ℕ → S → R → Type 0} {state : R → S} {steps : R → ℕ} (keep : (b : ℕ) (st : S) (r : R) → P b st r → Q b st r) where
+module _ {S R : Type 0} {P Q : ℕ → S → R → Type 0} {state : R → S} {steps : R → ℕ}
+    (keep : (b : ℕ) (st : S) (r : R) → P b st r → Q b st r) where
   kept : {st : S} {B K : ℕ} {r : R} → Chain S R P state steps st B K r → Chain S R Q state steps st B K r
   kept (one {st = st} {b = b} {r = r} p) = one (keep b st r p)
   kept (more {st = st} {b = b} {r = r} p c) = more (keep b st r p) (kept c)
 
-  kept-told : {A : Type 0} (tell : R → List A) {st : S} {B K : ℕ} {r : R} (c : Chain S R P state steps st B K r) → told tell (kept c) ≡ told tell c
+  kept-told : {A : Type 0} (tell : R → List A) {st : S} {B K : ℕ} {r : R} (c : Chain S R P state steps st B K r)
+      → told tell (kept c) ≡ told tell c
   unfolding told kept
   kept-told tell (one p) = refl
   kept-told {A} tell (more {r = r} p c) = ap (λ (l : List A). tell r ++ l) (kept-told tell c)
@@ -107,9 +115,12 @@ module _ {S R : Type 0} {P Q : ℕ → S → R → Type 0} {state : R → S} {st
 
 -- ---- ours
 
-module _ (call : Preparer) (promise : (s tw : List ℕ) (b : ℕ) (st : Lent) → PrepPromise s tw (st .table) b (st .state) (call s tw b st .turn) (call s tw b st .left)) where
-  keeps-prep : (s tw : List ℕ) (b : ℕ) (st : Lent) (r : PrepBack) → r ≡ call s tw b st → PrepPromise s tw (st .table) b (st .state) (r .turn) (r .left)
-  keeps-prep s tw b st r q = subst (λ (x : PrepBack). PrepPromise s tw (st .table) b (st .state) (x .turn) (x .left)) (sym q) (promise s tw b st)
+module _ (call : Preparer) (promise : (s tw : List ℕ) (b : ℕ) (st : Lent)
+    → PrepPromise s tw (st .table) b (st .state) (call s tw b st .turn) (call s tw b st .left)) where
+  keeps-prep : (s tw : List ℕ) (b : ℕ) (st : Lent) (r : PrepBack) → r ≡ call s tw b st
+      → PrepPromise s tw (st .table) b (st .state) (r .turn) (r .left)
+  keeps-prep s tw b st r q = subst (λ (x : PrepBack). PrepPromise s tw (st .table) b (st .state) (x .turn) (x .left)) (sym q)
+      (promise s tw b st)
 
   pub ours-prep-two : PrepTwo call
   ours-prep-two = record {
@@ -126,7 +137,8 @@ module _ (call : Preparer) (promise : (s tw : List ℕ) (b : ℕ) (st : Lent) �
       let run = prepRunOf (entriesOf width s) (entriesOf width tw) (entries tw) b (reading st) in
       (run,
        subst (PrepHanded (call s tw b st .turn) (call s tw b st .left))
-         (begun-runs s tw g (length (st .table)) (reading st) (prepInRange (entries s) (reading st)) run (le-leb _ _ (i .next-high)) (i .room))
+         (begun-runs s tw g (length (st .table)) (reading st) (prepInRange (entries s) (reading st)) run (le-leb _ _ (i .next-high))
+             (i .room))
          (promise s tw b st),
        turn-outcome Preparing prepared (prepStep (entriesOf width s) (entriesOf width tw) (entries tw)) b (reading st))
 
@@ -142,7 +154,8 @@ module _ (call : Walker) (promise : (s tw left : List ℕ) (b : ℕ) (w : Walk) 
     whole = λ s tw left a p c h.
       sym (kept-told (keeps-walk s tw left) (tellOf (entries tw)) c) ∙ loose-exactly s tw a left p (kept (keeps-walk s tw left) c) .whole h;
     arrives = λ s tw left a p c h l.
-      walk-within s tw a left p start (kept (keeps-walk s tw left) c) (kept-each (keeps-walk s tw left) (λ u. u .stop ≡ Stop.Budget) c h) .arrives l;
+      walk-within s tw a left p start (kept (keeps-walk s tw left) c)
+          (kept-each (keeps-walk s tw left) (λ u. u .stop ≡ Stop.Budget) c h) .arrives l;
   }
 
   pub ours-walk-three : WalkThree call
@@ -157,7 +170,8 @@ module _ (call : Walker) (promise : (s tw left : List ℕ) (b : ℕ) (w : Walk) 
 
 pub prep-three-turn : (call : Preparer) → PrepThree call → (s tw : List ℕ) → givenOf s tw .reason ≡ 1 → (b : ℕ) (st : Lent)
     → Ready (entries s) (reading st)
-    → PrepHanded (call s tw b st .turn) (call s tw b st .left) (prepRunOf (entriesOf width s) (entriesOf width tw) (entries tw) b (reading st))
+    → PrepHanded (call s tw b st .turn) (call s tw b st .left)
+        (prepRunOf (entriesOf width s) (entriesOf width tw) (entries tw) b (reading st))
 prep-three-turn call d s tw g b st i =
     let x = d s tw g b st i in
     subst (PrepHanded (call s tw b st .turn) (call s tw b st .left)) (sym (outcome-turn Preparing _ _ (x .2))) (x .1)

@@ -1,7 +1,8 @@
--- The theorems of the walk: for an accepted signature, an accepted twig and nothing altered, over start call, any chain of preparing turns to
--- the end, the fresh walk and any chain of walking turns, with any budgets.
+-- The theorems of the walk, for an accepted signature, an accepted twig and nothing altered: over start call, any chain of preparing turns
+-- to the end, the fresh walk and any chain of walking turns, with any budgets.
 --   allLoose s tw     the ascending list of all loose answers
 --   AllOf l           l has just the loose answers, ascending
+--   all-of, all-unique, all-once   allLoose has just the loose answers, ascending, is the only such list, and has none twice
 --   Listed c r        what the theorem says of a chain c whose last turn answered r
 --   loose-exactly     the answers told along the chain are that list, each once, and all of it where the end is reported
 --   Within B K r      what the theorem says of turns between
@@ -52,7 +53,8 @@ chain-unrefused : (ch : Choices) {w : walks.Walk} {B K : ℕ} {t : Turned walks.
     → (number entry : ℕ) → t .halt ≡ refusal number entry → ⊥
 chain-unrefused ch c number entry q =
     let l = chain-last walks.Walk walkDone (walkStep ch) c in
-    outcome-unrefused ch (turn-outcome walks.Walk walkDone (walkStep ch) (l .0) (l .1)) number entry (ap (λ (t : Turned walks.Walk). t .halt) (sym (l .2)) ∙ q)
+    outcome-unrefused ch (turn-outcome walks.Walk walkDone (walkStep ch) (l .0) (l .1)) number entry
+        (ap (λ (t : Turned walks.Walk). t .halt) (sym (l .2)) ∙ q)
 
 -- the ascending list of all loose answers of the twig tw on the signature s
 abbrev pub allLoose : List ℕ → List ℕ → List (List ℕ)
@@ -128,7 +130,8 @@ module _ (s tw : List ℕ) where
       same : map reverse (answersFrom (ch s tw g left pr) (suc (entries tw - 1)) []) ≡ allLoose s tw
       same =
           ap (λ (k : ℕ). map reverse (answersFrom (ch s tw g left pr) k [])) nodes
-          ∙ bits-listed (entries s) (entries tw) (entriesOf width s) (entriesOf width tw) (g .tree) (g .twig) (byBit (can left)) (bits s tw g left pr)
+          ∙ bits-listed (entries s) (entries tw) (entriesOf width s) (entriesOf width tw) (g .tree) (g .twig) (byBit (can left))
+              (bits s tw g left pr)
 
       -- demand 2: the answers told, in order, are the front of the list; where the end is reported they are the list
       pub loose-exactly : {B K : ℕ} {r : WalkTurn} (c : WalkTurns s tw left fresh B K r) → Listed left c
@@ -163,7 +166,8 @@ module _ (s tw : List ℕ) where
           let x = way-run s tw g left pr c i in
           let y = x .run in
           let k = budgets (y .chain) (y .each-same h) in
-          let l = chain-limit (ch s tw g left pr) (rise s tw g left pr) (entries tw) (entries s) (bound s tw g left pr) (y .chain) k (x .way) in
+          let l = chain-limit (ch s tw g left pr) (rise s tw g left pr) (entries tw) (entries s) (bound s tw g left pr) (y .chain) k
+              (x .way) in
           record {
             limit = omega (arith, y .count-same, l);
             arrives = λ b.
@@ -171,7 +175,8 @@ module _ (s tw : List ℕ) where
               (stopped (y .last .halt)
               (subst (λ (t : Turned walks.Walk). (t .halt ≡ answer) ⊎ (t .halt ≡ end))
                 (chain-one walks.Walk walkDone (walkStep (ch s tw g left pr)) (y .chain) k)
-                (turn-limit (ch s tw g left pr) (rise s tw g left pr) (entries tw) (entries s) (bound s tw g left pr) B (x .from) (x .way) b)));
+                (turn-limit (ch s tw g left pr) (rise s tw g left pr) (entries tw) (entries s) (bound s tw g left pr) B (x .from)
+                    (x .way) b)));
           }
         where
           stopped : (h : Halt) → (h ≡ answer) ⊎ (h ≡ end) → (stopOf h ≡ Stop.Answer) ⊎ (stopOf h ≡ Stop.End)

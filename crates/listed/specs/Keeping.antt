@@ -79,7 +79,8 @@ module _ (n m : ℕ) (e w : Entries) (tree : Facts n e) (table : List ℕ) (t : 
       -- below of the fa of t has the bit where one of the three joined has it
       joined-bit : 1 < t → s ≡ e .fa t → hasBit (below after s) q ≡ ((x || y) || z)
       joined-bit l f =
-          let g : below after s ≡ bitOr (bitOr (below table s) (newCan e w m table t)) (below table t) = rw f (below-new e w m table t low room parented l) in
+          let g : below after s ≡ bitOr (bitOr (below table s) (newCan e w m table t)) (below table t) = rw f
+              (below-new e w m table t low room parented l) in
           ap (λ (v : ℕ). hasBit v q) g
           ∙ or-bit (bitOr (below table s) (newCan e w m table t)) (below table t) q
           ∙ ap (λ (v : Bool). v || z) (or-bit (below table s) (newCan e w m table t) q)
@@ -109,7 +110,8 @@ module _ (n m : ℕ) (e w : Entries) (tree : Facts n e) (table : List ℕ) (t : 
       below-now-complete u = by (ℕ-discrete (u .inside .child) t) (decLe t 1) (ℕ-discrete s (e .fa t))
         where
           old : (u .inside .child ≡ t → ⊥) → x ≡ true
-          old k = ok .below-complete s q a b c d (record { at = u .at; inside = u .inside; done = omega (arith, u .done); found = u .found })
+          old k = ok .below-complete s q a b c d (record
+              { at = u .at; inside = u .inside; done = omega (arith, u .done); found = u .found })
 
           -- the match is at t itself, or below it
           here : 1 < t → s ≡ e .fa t → u .inside .child ≡ t → Dec (u .at ≡ t) → hasBit (below after s) q ≡ true
@@ -120,7 +122,8 @@ module _ (n m : ℕ) (e w : Entries) (tree : Facts n e) (table : List ℕ) (t : 
               let o = rw k at (u .inside .low) in
               let v = in-child n e tree t (u .at) low (omega arith) (omega (arith, tree .each t low high .ff-high)) g in
               joined-bit l f
-              ∙ true-right (x || y) z (ok .below-complete t q low high c d (record { at = u .at; inside = v; done = v .after; found = u .found }))
+              ∙ true-right (x || y) z (ok .below-complete t q low high c d
+                  (record { at = u .at; inside = v; done = v .after; found = u .found }))
 
           by : Dec (u .inside .child ≡ t) → Dec (t ≤ 1) → Dec (s ≡ e .fa t) → hasBit (below after s) q ≡ true
           by (yes k) (yes l) f = absurd (omega (arith, u .inside .after))
@@ -142,7 +145,8 @@ module _ (n m : ℕ) (e w : Entries) (tree : Facts n e) (table : List ℕ) (t : 
       where
         sound : (s q : ℕ) → t - 1 < s → s ≤ n → 1 ≤ q → q ≤ m → Dec (s ≡ t) → hasBit (can after s) q ≡ true → Match n m e w q s
         sound s q l b c d (yes f) h = rw f (can-now-sound q c d (rw (f, can-new e w m table t low room parented) at h))
-        sound s q l b c d (no f) h = ok .can-sound s q (omega arith) b c d (rw (can-same e w m table t low room parented s (omega arith) f) at h)
+        sound s q l b c d (no f) h = ok .can-sound s q (omega arith) b c d
+            (rw (can-same e w m table t low room parented s (omega arith) f) at h)
 
         complete : (s q : ℕ) → t - 1 < s → s ≤ n → 1 ≤ q → q ≤ m → Dec (s ≡ t) → Match n m e w q s → hasBit (can after s) q ≡ true
         complete s q l b c d (yes f) h = rw (f, can-new e w m table t low room parented) (can-now-complete q c d (rw f at h))

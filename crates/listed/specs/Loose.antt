@@ -2,7 +2,7 @@
 --   Passes want name    the name test of a twig node
 --   Under e i j         j is below i
 --   rank l q            the number that the answer l gives node q
---   Placed n e w x q    node q has a rank, its name passes, and it lies below the image of its twig parent unless it is the top node on hand
+--   Ranked n e w x q   the images x give node q a rank, and its name passes
 --   LooseAnswer n m e w l   l is a loose answer, its numbers in twig preorder
 --   PartFits n e w q t  the twig's part under q fits loosely with q at t
 use Prim.Native.Nat.{ℕ, _-_, _≤_, _<_}

@@ -1,5 +1,6 @@
 -- A match of the twig's part under q at t, child by child: it is that the part fits.
 --   Match n m e w q t   the name passes at t, and each child of q has a match below t
+--   Kid, kid-of         a child comes after its parent, and its part lies in the parent's
 --   fits-match, match-fits   there is one exactly if the part fits
 --   answer-match        each node of a loose answer has a match at its image
 use Prim.Native.Nat.{ℕ, zero, suc, _+_, _-_, _≤_, _<_}

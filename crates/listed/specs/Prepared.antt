@@ -1,6 +1,8 @@
--- Preparing an accepted signature for an accepted twig: n steps from the start call to the end, and then can says where each part of the twig fits.
+-- Preparing an accepted signature for an accepted twig: n steps from the start call to the end, and then can says where each part of the
+-- twig fits.
 --   PreparedRight    the table that preparing leaves
 --   Done, Short      what a chain of public turns comes to: the end, or the budget
+--   grounds-right    the same as prepare-n, from the facts of both trees
 --   prepare-n        any chain of public turns that reports the end took n steps in all, and left such a table
 --   prepare-ends     one that may spend n steps reports the end; one that may spend fewer spends them all, and none is refused
 use Prim.Native.Nat.{ℕ, _*_, _≤_, _<_}
@@ -22,7 +24,8 @@ use Rattle.checked.specs.Yields.{entries}
 use Rattle.loose.specs.declared.Prep.{Prep}
 use Rattle.loose.specs.declared.Started.{Started}
 use Rattle.loose.specs.Preparing.{Preparing, prepared, prepStep}
-use Rattle.loose.specs.PrepTurn.{cleared, Fresh, startFault, StartPromise, preparing, prepRunOf, prepTurnOf, prepInRange, PrepHanded, PrepPromise}
+use Rattle.loose.specs.PrepTurn.{cleared, Fresh, startFault, StartPromise, preparing}
+use Rattle.loose.specs.PrepTurn.{prepRunOf, prepTurnOf, prepInRange, PrepHanded, PrepPromise}
 use Rattle.listed.specs.Tables.{clear-length}
 use Rattle.listed.specs.Rightly.{Right, clear-right, right-fits}
 use Rattle.listed.specs.Ruling.{Finished, prep-moves, Ready, ready-kept, fault-room}
@@ -91,10 +94,12 @@ module _ (s tw : List ℕ) where
     ready-stays = turn-kept prepared (prepStep e w m) (Ready n) (ready-kept n m e w)
 
     ran : {st : Lent} {B K : ℕ} {r : PrepBack} (c : PrepTurns s tw st B K r) (p : Preparing) → reading st ≡ p → Ready n p
-        → Ran (λ b from t. PrepPromise s tw (from .table) b (from .state) (t .turn) (t .left)) lend (λ t. t .turn .steps) (λ x. x .turn .stop)
+        → Ran (λ b from t. PrepPromise s tw (from .table) b (from .state) (t .turn) (t .left)) lend (λ t. t .turn .steps)
+            (λ x. x .turn .stop)
           reading prepared (prepStep e w m) (Ready n) ready-stays prep-runs {A = ℕ} (λ x. []) (λ x. []) (λ r t i x. refl) p c
     ran c p q i =
-        chain-ran (λ b from t. PrepPromise s tw (from .table) b (from .state) (t .turn) (t .left)) lend (λ t. t .turn .steps) (λ x. x .turn .stop)
+        chain-ran (λ b from t. PrepPromise s tw (from .table) b (from .state) (t .turn) (t .left)) lend (λ t. t .turn .steps)
+            (λ x. x .turn .stop)
         reading prepared (prepStep e w m) (Ready n) ready-stays prep-runs {A = ℕ} (λ x. []) (λ x. []) (λ r t i x. refl) c p q i
 
     -- what a start call that worked left
@@ -114,8 +119,10 @@ module _ (s tw : List ℕ) where
         }
 
     module _ (lent left : List ℕ) (p : Prep) (start : StartPromise n lent (Started.Fresh p) left) where
-      grounds-ends : {B K : ℕ} {r : PrepBack} → PrepTurns s tw (record { state = p; table = left }) B K r → Done s tw B K r ⊎ Short s tw B K r
-      grounds-ends {B} {K} {r} c = by (chain-ends Preparing prepared (prepStep e w m) (x .chain) n (record { next = 0; table = f .left }) refl (f .moves))
+      grounds-ends : {B K : ℕ} {r : PrepBack} → PrepTurns s tw (record { state = p; table = left }) B K r
+          → Done s tw B K r ⊎ Short s tw B K r
+      grounds-ends {B} {K} {r} c = by (chain-ends Preparing prepared (prepStep e w m) (x .chain) n
+          (record { next = 0; table = f .left }) refl (f .moves))
         where
           b : Begun lent left p
           b = start-left lent left p start
@@ -136,7 +143,8 @@ module _ (s tw : List ℕ) where
               (record { next-high = omega arith; room = omega (arith, long, b .room) })
 
           by : Reached Preparing prepared (prepStep e w m) n B (x .count) (record { next = 0; table = f .left }) (x .last)
-              ⊎ Underway Preparing prepared (prepStep e w m) n B (x .count) (record { next = 0; table = f .left }) (x .last) → Done s tw B K r ⊎ Short s tw B K r
+              ⊎ Underway Preparing prepared (prepStep e w m) n B (x .count) (record { next = 0; table = f .left }) (x .last)
+                  → Done s tw B K r ⊎ Short s tw B K r
           by (inl q) =
               let z : r .left ≡ f .left = ap (λ (y : Preparing). y .table) (x .back .state-same ∙ q .state) in
               inl (record {
@@ -161,9 +169,11 @@ module _ (s tw : List ℕ) where
 
 -- ---- the theorems
 
-module _ (s tw : List ℕ) (accepted : Accepted s tw) (lent left : List ℕ) (p : Prep) (start : StartPromise (entries s) lent (Started.Fresh p) left) where
+module _ (s tw : List ℕ) (accepted : Accepted s tw) (lent left : List ℕ) (p : Prep)
+    (start : StartPromise (entries s) lent (Started.Fresh p) left) where
   -- with n steps to spend in all, the end; with fewer, the budget, after all of them; never a refusal
-  pub prepare-ends : {B K : ℕ} {r : PrepBack} → PrepTurns s tw (record { state = p; table = left }) B K r → Done s tw B K r ⊎ Short s tw B K r
+  pub prepare-ends : {B K : ℕ} {r : PrepBack} → PrepTurns s tw (record { state = p; table = left }) B K r
+      → Done s tw B K r ⊎ Short s tw B K r
   prepare-ends c = grounds-ends s tw (accepted-grounds s tw accepted) lent left p start c
 
   -- demand 3: "the steps add up to n"; demand 2: "that the table is prepared is a conclusion, never a premise"

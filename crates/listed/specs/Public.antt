@@ -21,7 +21,8 @@ pub record Back {S R P : Type 0} (state : R → S) (steps : R → ℕ) (stop : R
   pub stop-same : stop r ≡ stopOf (t .halt)
 
 -- what every step keeps, a turn keeps
-module _ {P : Type 0} (done : P → Bool) (step : P → Next P) (Inv : P → Type 0) (keeps : (a b : P) → Inv a → Step P done step a b → Inv b) where
+module _ {P : Type 0} (done : P → Bool) (step : P → Next P) (Inv : P → Type 0)
+    (keeps : (a b : P) → Inv a → Step P done step a b → Inv b) where
   steps-kept : {k : ℕ} {a b : P} → Inv a → Steps P done step k a b → Inv b
   steps-kept i none = i
   steps-kept i (then {st = a} {mid = b} x m) = steps-kept (keeps a b i x) m

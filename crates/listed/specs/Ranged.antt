@@ -63,9 +63,11 @@ module _ (n m : ℕ) (e w : Entries) (tree : Facts n e) (twig : Facts m w) (smal
   unfolding phaseFits parentOf
   way-ranged (walking r c xs) i =
       let t = i .way in
-      let low : suc (imageOf xs (w .fa (suc (length xs)))) ≤ c = reached-least (plain-rising ch (choices-plain n e w (byBit can)) xs) (t .from) in
+      let low : suc (imageOf xs (w .fa (suc (length xs)))) ≤ c = reached-least (plain-rising ch (choices-plain n e w (byBit can)) xs)
+          (t .from) in
       let g = image-room xs (w .fa (suc (length xs))) (omega (arith, t .nodes)) in
-      ranged (roomOf 16 xs) (suc (length xs)) c (length xs) Phase.Walking (omega arith) (omega (arith, t .nodes)) (omega arith) (i .least) (omega arith)
+      ranged (roomOf 16 xs) (suc (length xs)) c (length xs) Phase.Walking (omega arith) (omega (arith, t .nodes)) (omega arith) (i .least)
+          (omega arith)
       (images-fit xs (omega (arith, t .nodes)) (t .good)) (rw g (lt-ltb (imageOf xs (w .fa (suc (length xs)))) c low))
   way-ranged (atAnswer x xs) i =
       let k : suc (length xs) ≡ m = i .way .0 in

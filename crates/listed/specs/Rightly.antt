@@ -1,6 +1,7 @@
 -- What preparing keeps: where the entries after t are done, can of each of them is right, and below of every entry has the bits of what is
 -- matched in the blocks of its children after t. A step of the rule keeps this for one entry more.
 --   Child e s j         the child of s in whose block j lies
+--   block-inside, child-under   blocks in blocks
 --   in-child            each entry below s lies in the block of a child of s
 --   Joined t s q        twig node q is matched in the block of a child of s after t
 --   Right table t       the table is right after t

@@ -59,7 +59,8 @@ module _ (n m : ℕ) (e w : Entries) (tree : Facts n e) where
       let after = stepTable e w m table (suc t) in
       let k : length after ≡ length table = step-length e w m table (suc t) in
       let z : suc t - 1 ≡ t = omega arith in
-      let r : Right n m e w after t = subst (Right n m e w after) z (step-right n m e w tree table (suc t) (omega arith) a ok (omega arith) p) in
+      let r : Right n m e w after t = subst (Right n m e w after) z
+          (step-right n m e w tree table (suc t) (omega arith) a ok (omega arith) p) in
       let f = prep-moves t after (omega arith) (omega arith) r in
       let q : prepStep e w m (record { next = suc t; table = table }) ≡ moved (record { next = t; table = after })
             = step-moves e w m (suc t) table p ∙ ap (λ (x : ℕ). moved (record { next = x; table = after })) z in

@@ -2,6 +2,8 @@
 --   byBit can          the test by a table's bits
 --   shown n w          the saved walk that stands for the walk w
 --   Small n w          its candidate is at most n+1
+--   image-room         an image in the room of sixteen
+--   nodes              what holds of the images set
 --   Way                what holds of every walk on the way
 --   walk-mirrors       finished and step agree, and steps keep the way
 use Prim.Native.Nat.{ℕ, zero, suc, _+_, _-_, _≤_, _<_}
@@ -96,10 +98,10 @@ module _ (n m : ℕ) (e w : Entries) (tree : Facts n e) (twig : Facts m w) (smal
         by (y ∷ ys) h = rw (lt-leb (suc (suc (length ys))) 1 (omega arith), h)
 
     -- on a tree its ff is never out of range
-    end-fine : (p : ℕ) (l : List ℕ) (q : ℕ) (f : Phase) → image l (w .fa (suc (length xs))) ≡ imageOf xs (w .fa (suc (length xs)))
+    end-fine : (l : List ℕ) (q : ℕ) (f : Phase) → image l (w .fa (suc (length xs))) ≡ imageOf xs (w .fa (suc (length xs)))
         → badEnd n e w (at l (suc (length xs)) q f) ≡ false
     unfolding badEnd
-    end-fine p l q f h = by xs refl h
+    end-fine l q f h = by xs refl h
       where
         by : (ys : List ℕ) → xs ≡ ys → image l (w .fa (suc (length ys))) ≡ imageOf ys (w .fa (suc (length ys)))
             → (ltb 1 (suc (length ys))
@@ -113,7 +115,8 @@ module _ (n m : ℕ) (e w : Entries) (tree : Facts n e) (twig : Facts m w) (smal
             let v : w .fa (suc (suc (length ys))) < suc (suc (length ys)) = twig .each (suc (suc (length ys))) (omega arith) b .fa-high in
             let i = nodes (y ∷ ys) (omega arith) (subst (Good ch) z (t .good)) (w .fa (suc (suc (length ys)))) u (omega arith) in
             let j = tree .each (imageOf (y ∷ ys) (w .fa (suc (suc (length ys))))) (omega (arith, i .above)) (i .high) in
-            rw (k, lt-leb (e .ff (imageOf (y ∷ ys) (w .fa (suc (suc (length ys)))))) (imageOf (y ∷ ys) (w .fa (suc (suc (length ys))))) (j .ff-low),
+            rw (k, lt-leb (e .ff (imageOf (y ∷ ys) (w .fa (suc (suc (length ys)))))) (imageOf (y ∷ ys) (w .fa (suc (suc (length ys)))))
+                (j .ff-low),
               le-ltb (n + 1) (e .ff (imageOf (y ∷ ys) (w .fa (suc (suc (length ys)))))) (j .ff-high))
             (by-test (ltb 1 (suc (suc (length ys)))))
           where
@@ -142,7 +145,8 @@ module _ (n m : ℕ) (e w : Entries) (tree : Facts n e) (twig : Facts m w) (smal
   unfolding back
   finish-same r c l h = ap (λ (x : Walk). moved x) (at-same Phase.Ended refl refl (omega arith))
 
-  back-same : (r c x : ℕ) (xs : List ℕ) → length xs < 15 → back (shown n (walking r c (x ∷ xs))) ≡ moved (shown n (walking (suc r) (suc x) xs))
+  back-same : (r c x : ℕ) (xs : List ℕ) → length xs < 15
+      → back (shown n (walking r c (x ∷ xs))) ≡ moved (shown n (walking (suc r) (suc x) xs))
   unfolding back
   back-same r c x xs l =
       let k : suc (suc (length xs)) - 1 ≡ suc (length xs) = omega arith in
@@ -188,7 +192,8 @@ module _ (n m : ℕ) (e w : Entries) (tree : Facts n e) (twig : Facts m w) (smal
   step-same : (s : walks.Walk) → Way s → walkDone s ≡ false → stepOf n m e w can (shown n s) ≡ asNext (shown n) (walkStep ch s)
   unfolding stepOf
   step-same (walking r c xs) i d =
-      rw (end-fine r c xs (i .way) 0 (roomOf 16 xs) c Phase.Walking (image-room xs (w .fa (suc (length xs))) (omega (arith, i .way .nodes))))
+      rw (end-fine r c xs (i .way) (roomOf 16 xs) c Phase.Walking
+          (image-room xs (w .fa (suc (length xs))) (omega (arith, i .way .nodes))))
       (tried-same (i .way) (i .least) (step-walking ch r c xs))
   step-same (atAnswer x xs) i d =
       let t = after-answer ch m x xs (i .way) in
@@ -200,7 +205,7 @@ module _ (n m : ℕ) (e w : Entries) (tree : Facts n e) (twig : Facts m w) (smal
             = at-same Phase.Walking (drop-room x xs (suc (length xs)) (omega arith) refl) refl
               (add-one (image (roomOf 16 (x ∷ xs)) (suc (length xs)))
               ∙ ap suc (image-room (x ∷ xs) (suc (length xs)) (omega arith) ∙ image-top x xs (suc (length xs)) refl)) in
-      rw (end-fine 0 (suc x) xs t 0 (roomOf 16 (x ∷ xs)) x Phase.Answer j)
+      rw (end-fine 0 (suc x) xs t (roomOf 16 (x ∷ xs)) x Phase.Answer j)
       (ap (walkOn n m e w can) g ∙ tried-same t (omega (arith, i .least)) (step-answer ch x xs))
   step-same atEnd i d = let z : _≡_ {A = ℕ} 0 1 = cc in absurd (omega arith)
 

@@ -1,10 +1,10 @@
 -- Document 01's wrong programs do not meet the demands on preparing and walking: each is tried on a starred case.
---   prep-out-refusing, walk-out-refusing    refusing everything (demand 2)
---   prep-out-fixed, walk-out-fixed          one fixed answer, whatever it is (demand 2)
---   prep-out-idle, walk-out-idle            a turn that does nothing (demand 2 for answers)
---   prep-out-still, walk-out-still          the same (demand 3, as a paid step leaves a named state)
---   prep-out-at-once, walk-out-at-once      all the work in the first turn and idling later (demand 3)
---   prep-out-invented, walk-out-invented    an invented step count (demand 3)
+--   shut-out-prep-refusing, shut-out-walk-refusing    refusing everything (demand 2)
+--   shut-out-prep-fixed, shut-out-walk-fixed          one fixed answer, whatever it is (demand 2)
+--   shut-out-prep-idle, shut-out-walk-idle            a turn that does nothing (demand 2 for answers)
+--   shut-out-prep-still, shut-out-walk-still          the same (demand 3, as a paid step leaves a named state)
+--   shut-out-prep-at-once, shut-out-walk-at-once      all the work in the first turn and idling later (demand 3)
+--   shut-out-prep-invented, shut-out-walk-invented    an invented step count (demand 3)
 use Prim.Native.Nat.{ℕ}
 use mathlib.Core.Path.{_≡_, refl, ap, _∙_, sym}
 use mathlib.Core.Logic.{_⊎_, inl, inr}
@@ -54,13 +54,15 @@ must-end call d =
     d .complete four twoThreeFour (four-prepared .lent) (four-prepared .cleared) (four-prepared .state) four-accepted (four-prepared .start)
     (one {b = 4} refl) (omega arith)
 
-pub prep-out-refusing : (call : Preparer) → ((s tw : List ℕ) (b : ℕ) (st : Lent) → (x : Refusal) × (call s tw b st .turn .stop ≡ Stop.Refused x))
+pub shut-out-prep-refusing : (call : Preparer) → ((s tw : List ℕ) (b : ℕ) (st : Lent)
+    → (x : Refusal) × (call s tw b st .turn .stop ≡ Stop.Refused x))
     → PrepTwo call → ⊥
-prep-out-refusing call h d =
+shut-out-prep-refusing call h d =
     let q = sym (must-end call d) ∙ h four twoThreeFour 4 fourStart .1 in let z : _≡_ {A = ℕ} 0 1 = cc in omega arith
 
-pub prep-out-idle : PrepTwo (λ s tw b st. record { turn = record { state = st .state; steps = 0; stop = Stop.Budget }; left = st .table }) → ⊥
-prep-out-idle d = let q = must-end _ d in let z : _≡_ {A = ℕ} 0 1 = cc in omega arith
+pub shut-out-prep-idle : PrepTwo (λ s tw b st. record { turn = record { state = st .state; steps = 0; stop = Stop.Budget }; left = st .table })
+    → ⊥
+shut-out-prep-idle d = let q = must-end _ d in let z : _≡_ {A = ℕ} 0 1 = cc in omega arith
 
 -- twig node 2, named 3, fits at entry 3 of the four entries; twig node 2 of 8(9,10), named 9, does not at entry 3 of Ten
 four-fits : PartFits 4 (entriesOf width four) (entriesOf width twoThreeFour) 2 3
@@ -79,14 +81,17 @@ ten-not p =
           (ten-prepared .turns) (ten-prepared .ended) .1 2 3 (omega arith) (omega arith) (omega arith) (omega arith) .1 p in
     let q = sym ten-bit ∙ h in let z : _≡_ {A = ℕ} 0 1 = cc in omega arith
 
-pub prep-out-fixed : (r : PrepBack) → PrepTwo (λ s tw b st. r) → ⊥
-prep-out-fixed r d =
+pub shut-out-prep-fixed : (r : PrepBack) → PrepTwo (λ s tw b st. r) → ⊥
+shut-out-prep-fixed r d =
     let e : r .turn .stop ≡ Stop.End = must-end _ d in
     let a : TableSays four twoThreeFour (r .left)
-          = d .sound four twoThreeFour (four-prepared .lent) (four-prepared .cleared) (four-prepared .state) four-accepted (four-prepared .start) (one {b = 4} refl) e in
+          = d .sound four twoThreeFour (four-prepared .lent) (four-prepared .cleared) (four-prepared .state) four-accepted
+              (four-prepared .start) (one {b = 4} refl) e in
     let b : TableSays ten eight (r .left)
-          = d .sound ten eight (ten-prepared .lent) (ten-prepared .cleared) (ten-prepared .state) ten-accepted (ten-prepared .start) (one {b = 4} refl) e in
-    ten-not (b 2 3 (omega arith) (omega arith) (omega arith) (omega arith) .0 (a 2 3 (omega arith) (omega arith) (omega arith) (omega arith) .1 four-fits))
+          = d .sound ten eight (ten-prepared .lent) (ten-prepared .cleared) (ten-prepared .state) ten-accepted (ten-prepared .start)
+              (one {b = 4} refl) e in
+    ten-not (b 2 3 (omega arith) (omega arith) (omega arith) (omega arith) .0
+        (a 2 3 (omega arith) (omega arith) (omega arith) (omega arith) .1 four-fits))
 
 -- ---- demand 2 of walking
 
@@ -100,28 +105,30 @@ module _ (call : Walker) (d : WalkTwo call) where
   not-refused : (x : Refusal) → call four twoThreeFour fourTable 25 fresh .stop ≡ Stop.Refused x → ⊥
   not-refused x h = by (must-arrive call d)
     where
-      by : (call four twoThreeFour fourTable 25 fresh .stop ≡ Stop.Answer) ⊎ (call four twoThreeFour fourTable 25 fresh .stop ≡ Stop.End) → ⊥
+      by : (call four twoThreeFour fourTable 25 fresh .stop ≡ Stop.Answer) ⊎ (call four twoThreeFour fourTable 25 fresh .stop ≡ Stop.End)
+          → ⊥
       by (inl e) = let q = sym e ∙ h in let z : _≡_ {A = ℕ} 0 1 = cc in omega arith
       by (inr e) = let q = sym e ∙ h in let z : _≡_ {A = ℕ} 0 1 = cc in omega arith
 
   not-budget : call four twoThreeFour fourTable 25 fresh .stop ≡ Stop.Budget → ⊥
   not-budget h = by (must-arrive call d)
     where
-      by : (call four twoThreeFour fourTable 25 fresh .stop ≡ Stop.Answer) ⊎ (call four twoThreeFour fourTable 25 fresh .stop ≡ Stop.End) → ⊥
+      by : (call four twoThreeFour fourTable 25 fresh .stop ≡ Stop.Answer) ⊎ (call four twoThreeFour fourTable 25 fresh .stop ≡ Stop.End)
+          → ⊥
       by (inl e) = let q = sym e ∙ h in let z : _≡_ {A = ℕ} 0 1 = cc in omega arith
       by (inr e) = let q = sym e ∙ h in let z : _≡_ {A = ℕ} 0 1 = cc in omega arith
 
-pub walk-out-refusing : (call : Walker)
+pub shut-out-walk-refusing : (call : Walker)
     → ((s tw left : List ℕ) (b : ℕ) (w : Walk) → (x : Refusal) × (call s tw left b w .stop ≡ Stop.Refused x)) → WalkTwo call → ⊥
-walk-out-refusing call h d =
+shut-out-walk-refusing call h d =
     let x = h four twoThreeFour fourTable 25 fresh in not-refused call d (x .0) (x .1)
 
-pub walk-out-idle : WalkTwo (λ s tw left b w. record { walk = w; steps = 0; stop = Stop.Budget }) → ⊥
-walk-out-idle d = not-budget _ d refl
+pub shut-out-walk-idle : WalkTwo (λ s tw left b w. record { walk = w; steps = 0; stop = Stop.Budget }) → ⊥
+shut-out-walk-idle d = not-budget _ d refl
 
-pub walk-out-fixed : (r : WalkTurn) → WalkTwo (λ s tw left b w. r) → ⊥
+pub shut-out-walk-fixed : (r : WalkTurn) → WalkTwo (λ s tw left b w. r) → ⊥
 unfolding told
-walk-out-fixed r d = by (r .stop) refl
+shut-out-walk-fixed r d = by (r .stop) refl
   where
     by : (x : Stop) → r .stop ≡ x → ⊥
     by Stop.Answer h =
@@ -161,22 +168,25 @@ four-two = refl
 -- what demand 3 says of the steps of a turn on the four entries
 prep-steps : (call : Preparer) → PrepThree call → (b : ℕ)
     → call four twoThreeFour b (record { state = prepAt 4; table = clearedFor 4 }) .turn .steps ≡ fourRun b .steps
-prep-steps call d b = prep-three-turn call d four twoThreeFour four-given b (record { state = prepAt 4; table = clearedFor 4 }) four-ready .steps
+prep-steps call d b = prep-three-turn call d four twoThreeFour four-given b
+    (record { state = prepAt 4; table = clearedFor 4 }) four-ready .steps
 
-pub prep-out-still : PrepThree (λ s tw b st. record { turn = record { state = st .state; steps = 0; stop = Stop.Budget }; left = st .table }) → ⊥
-prep-out-still d = let q : _≡_ {A = ℕ} 0 1 = prep-steps _ d 1 ∙ four-one in omega arith
+pub shut-out-prep-still : PrepThree (λ s tw b st. record
+    { turn = record { state = st .state; steps = 0; stop = Stop.Budget }; left = st .table }) → ⊥
+shut-out-prep-still d = let q : _≡_ {A = ℕ} 0 1 = prep-steps _ d 1 ∙ four-one in omega arith
 
 all-at-once : prepTurnOf four twoThreeFour 4096 (record { next = 4; table = clearedFor 4 }) .steps ≡ 4
-unfolding begun ready givenOf turnWithin lengthFault check.inRange run check.stepOf check.closeOf check.nameless check.secondRoot check.accepted cell
+unfolding begun ready givenOf turnWithin lengthFault check.inRange run check.stepOf check.closeOf check.nameless check.secondRoot
+    check.accepted cell
     every hasBit mask put passes childrenIn stands canOf badParent written joined stepTable prepStep cleared
 all-at-once = refl
 
-pub prep-out-at-once : PrepThree (λ s tw b st. prepBack (prepTurnOf s tw 4096 (reading st))) → ⊥
-prep-out-at-once d = let q : _≡_ {A = ℕ} 4 1 = sym all-at-once ∙ prep-steps _ d 1 ∙ four-one in omega arith
+pub shut-out-prep-at-once : PrepThree (λ s tw b st. prepBack (prepTurnOf s tw 4096 (reading st))) → ⊥
+shut-out-prep-at-once d = let q : _≡_ {A = ℕ} 4 1 = sym all-at-once ∙ prep-steps _ d 1 ∙ four-one in omega arith
 
-pub prep-out-invented : (count : ℕ → ℕ) → (count 2 ≡ 2 → ⊥) → (call : Preparer)
+pub shut-out-prep-invented : (count : ℕ → ℕ) → (count 2 ≡ 2 → ⊥) → (call : Preparer)
     → ((b : ℕ) → call four twoThreeFour b (record { state = prepAt 4; table = clearedFor 4 }) .turn .steps ≡ count b) → PrepThree call → ⊥
-prep-out-invented count n call c d = n (sym (c 2) ∙ prep-steps call d 2 ∙ four-two)
+shut-out-prep-invented count n call c d = n (sym (c 2) ∙ prep-steps call d 2 ∙ four-two)
 
 -- ---- demand 3 of walking
 
@@ -199,17 +209,18 @@ walk-two = refl
 walk-steps : (call : Walker) → WalkThree call → (b : ℕ) → call four twoThreeFour fourTable b fresh .steps ≡ fourWalk b .steps
 walk-steps call d b = walk-three-turn call d four twoThreeFour fourTable four-given (omega arith) b fresh four-fresh .steps
 
-pub walk-out-still : WalkThree (λ s tw left b w. record { walk = w; steps = 0; stop = Stop.Budget }) → ⊥
-walk-out-still d = let q : _≡_ {A = ℕ} 0 1 = walk-steps _ d 1 ∙ walk-one in omega arith
+pub shut-out-walk-still : WalkThree (λ s tw left b w. record { walk = w; steps = 0; stop = Stop.Budget }) → ⊥
+shut-out-walk-still d = let q : _≡_ {A = ℕ} 0 1 = walk-steps _ d 1 ∙ walk-one in omega arith
 
 walk-at-once : walkTurnOf four twoThreeFour fourTable 4096 fresh .steps ≡ 5
-unfolding begun ready givenOf turnWithin lengthFault check.inRange run check.stepOf check.closeOf check.nameless check.secondRoot check.accepted cell
+unfolding begun ready givenOf turnWithin lengthFault check.inRange run check.stepOf check.closeOf check.nameless check.secondRoot
+    check.accepted cell
     every hasBit image place imageFits phaseFits inRange endOf badEnd back found walkOn stepOf
 walk-at-once = refl
 
-pub walk-out-at-once : WalkThree (λ s tw left b w. walkBack (walkTurnOf s tw left 4096 w)) → ⊥
-walk-out-at-once d = let q : _≡_ {A = ℕ} 5 1 = sym walk-at-once ∙ walk-steps _ d 1 ∙ walk-one in omega arith
+pub shut-out-walk-at-once : WalkThree (λ s tw left b w. walkBack (walkTurnOf s tw left 4096 w)) → ⊥
+shut-out-walk-at-once d = let q : _≡_ {A = ℕ} 5 1 = sym walk-at-once ∙ walk-steps _ d 1 ∙ walk-one in omega arith
 
-pub walk-out-invented : (count : ℕ → ℕ) → (count 2 ≡ 2 → ⊥) → (call : Walker)
+pub shut-out-walk-invented : (count : ℕ → ℕ) → (count 2 ≡ 2 → ⊥) → (call : Walker)
     → ((b : ℕ) → call four twoThreeFour fourTable b fresh .steps ≡ count b) → WalkThree call → ⊥
-walk-out-invented count n call c d = n (sym (c 2) ∙ walk-steps call d 2 ∙ walk-two)
+shut-out-walk-invented count n call c d = n (sym (c 2) ∙ walk-steps call d 2 ∙ walk-two)

@@ -78,7 +78,8 @@ module _ (e w : Entries) (m : ℕ) (table : List ℕ) (t : ℕ) where
         by (yes l) = ap (λ (x : List ℕ). can x t) (step-first l) ∙ same
         by (no l) =
             ap (λ (x : List ℕ). can x t) (step-inner (omega arith))
-            ∙ put-other (put 2 table t 0 newCan) (e .fa t) 1 (bitOr (bitOr (below table (e .fa t)) newCan) (below table t)) t 0 (λ z. omega arith)
+            ∙ put-other (put 2 table t 0 newCan) (e .fa t) 1 (bitOr (bitOr (below table (e .fa t)) newCan) (below table t)) t 0
+                (λ z. omega arith)
             ∙ same
 
     pub can-same : (s : ℕ) → 1 ≤ s → (s ≡ t → ⊥) → can after s ≡ can table s
@@ -91,7 +92,8 @@ module _ (e w : Entries) (m : ℕ) (table : List ℕ) (t : ℕ) where
         by (yes l) = ap (λ (x : List ℕ). can x s) (step-first l) ∙ same
         by (no l) =
             ap (λ (x : List ℕ). can x s) (step-inner (omega arith))
-            ∙ put-other (put 2 table t 0 newCan) (e .fa t) 1 (bitOr (bitOr (below table (e .fa t)) newCan) (below table t)) s 0 (λ z. omega arith)
+            ∙ put-other (put 2 table t 0 newCan) (e .fa t) 1 (bitOr (bitOr (below table (e .fa t)) newCan) (below table t)) s 0
+                (λ z. omega arith)
             ∙ same
 
     pub below-same : (s : ℕ) → 1 ≤ s → (1 < t → s ≡ e .fa t → ⊥) → below after s ≡ below table s

@@ -1,8 +1,10 @@
 -- Walking over the table that preparing left: public turns are turns of the walk over the choices, and tell the same.
 --   prepared-right    the table is right, by prepare-n
+--   ch, bits, rise, bound   the walk over the table's bits, and what the laws of walks ask of it
+--   Standing          a saved walk that stands for one on the way
 --   Run               the chain over the choices that a chain of public turns is
---   walk-run          there is one from every walk on the way
---   chain-told        what it tells, in twig preorder
+--   first, fresh-run  there is one from the fresh walk
+--   Onward, way-run   and from every walk on the way
 use Prim.Native.Nat.{ℕ, _-_}
 use mathlib.Core.Path.{_≡_, refl, ap, ap₂, _∙_, sym, subst}
 use mathlib.Core.Bool.{true}
@@ -100,7 +102,8 @@ module _ (s tw : List ℕ) (g : Grounds s tw) where
         record {
           walk = t .state;
           same = ap (λ (y : Walk). turn Walk ended step b y .state) (i .same)
-              ∙ ap (λ (u : Turned Walk). u .state) (turn-mirrored (shown n) OnWay walkDone (walkStep ch) ended step mirror b (i .walk) (i .way));
+              ∙ ap (λ (u : Turned Walk). u .state)
+                  (turn-mirrored (shown n) OnWay walkDone (walkStep ch) ended step mirror b (i .walk) (i .way));
           way = turn-inv (shown n) OnWay walkDone (walkStep ch) ended step mirror b (i .walk) (i .way);
         }
 
@@ -109,11 +112,13 @@ module _ (s tw : List ℕ) (g : Grounds s tw) where
 
     walk-runs : (b : ℕ) (x : Walk) (r : WalkTurn) → Standing x → WalkPromise s tw left b x r → Is r (turn Walk ended step b x)
     walk-runs b x r i h =
-        let f : inRange n m w x ≡ true = rw (i .same) (way-ranged n m e w (g .tree) (g .twig) (g .small) (can left) bound (i .walk) (i .way)) in
+        let f : inRange n m w x ≡ true = rw (i .same)
+            (way-ranged n m e w (g .tree) (g .twig) (g .small) (can left) bound (i .walk) (i .way)) in
         let q : walkTurnOf s tw left b x ≡ walkRunOf n m e w (can left) b x
               = begun-runs s tw (g .given) (length left) x (inRange n m w x) (walkRunOf n m e w (can left) b x) f (right .room) in
         let k : WalkHanded r (walkRunOf n m e w (can left) b x) = subst (WalkHanded r) q h in
-        record { state-same = k .walk; steps-same = k .steps; stop-same = told-halt (r .stop) (walkRunOf n m e w (can left) b x .halt) (k .stop) }
+        record { state-same = k .walk; steps-same = k .steps; stop-same = told-halt (r .stop) (walkRunOf n m e w (can left) b x .halt)
+            (k .stop) }
 
     -- ---- chains
 
@@ -125,12 +130,14 @@ module _ (s tw : List ℕ) (g : Grounds s tw) where
 
     abbrev Runs : Walk → {x : Walk} {B K : ℕ} {r : WalkTurn} → WalkTurns s tw left x B K r → Type 0
     Runs y c =
-        Ran (λ b from t. WalkPromise s tw left b from t) (λ t. t .walk) (λ t. t .steps) (λ t. t .stop) (λ x. x) ended step Standing standing-stays
+        Ran (λ b from t. WalkPromise s tw left b from t) (λ t. t .walk) (λ t. t .steps) (λ t. t .stop)
+            (λ x. x) ended step Standing standing-stays
         walk-runs (tellOf m) saidOf said-same y c
 
     ran : {x : Walk} {B K : ℕ} {r : WalkTurn} (c : WalkTurns s tw left x B K r) → Standing x → Runs x c
     ran {x} c i =
-        chain-ran (λ b from t. WalkPromise s tw left b from t) (λ t. t .walk) (λ t. t .steps) (λ t. t .stop) (λ x. x) ended step Standing standing-stays
+        chain-ran (λ b from t. WalkPromise s tw left b from t) (λ t. t .walk) (λ t. t .steps) (λ t. t .stop)
+            (λ x. x) ended step Standing standing-stays
         walk-runs (tellOf m) saidOf said-same c x refl i
 
     -- what a turn of the walk tells, in twig preorder
@@ -142,7 +149,8 @@ module _ (s tw : List ℕ) (g : Grounds s tw) where
         z = images (walkTurn ch b x .state)
 
         by : (h : Halt) → walkTurn ch b x .halt ≡ h
-            → told (stopOf h) (take m (shown n (walkTurn ch b x .state) .images)) ≡ map reverse (telling.tellOf h (images (walkTurn ch b x .state)))
+            → told (stopOf h) (take m (shown n (walkTurn ch b x .state) .images)) ≡ map reverse
+                (telling.tellOf h (images (walkTurn ch b x .state)))
         by answer q =
             let k = turn-good ch m b x q (i .way) .0 in
             ap (λ (l : List ℕ). l ∷ [])
@@ -159,7 +167,8 @@ module _ (s tw : List ℕ) (g : Grounds s tw) where
     chain-said : {x : walks.Walk} {B K : ℕ} {t : Turned walks.Walk} (c : telling.WalkTurns ch x B K t) → OnWay x
         → chained.told (λ u. saidOf (asTurned (shown n) u)) c ≡ map reverse (chained.told tell c)
     unfolding chained.told
-    chain-said {x} (one {b = b} {r = t} q) i = subst (λ (u : Turned walks.Walk). saidOf (asTurned (shown n) u) ≡ map reverse (tell u)) (sym q) (turn-said b x i)
+    chain-said {x} (one {b = b} {r = t} q) i = subst (λ (u : Turned walks.Walk). saidOf (asTurned (shown n) u) ≡ map reverse (tell u))
+        (sym q) (turn-said b x i)
     chain-said {x} (more {b = b} {r = t} q c) i =
         let h : saidOf (asTurned (shown n) t) ≡ map reverse (tell t)
               = subst (λ (u : Turned walks.Walk). saidOf (asTurned (shown n) u) ≡ map reverse (tell u)) (sym q) (turn-said b x i) in
@@ -181,7 +190,8 @@ module _ (s tw : List ℕ) (g : Grounds s tw) where
     walk-run : {y : Walk} {B K : ℕ} {r : WalkTurn} (c : WalkTurns s tw left y B K r) (i : Standing y) → Run (i .walk) c
     walk-run {y} {B} {K} {r} c i =
         let a = ran c i in
-        let b = chain-mirrored (shown n) OnWay walkDone (walkStep ch) ended step mirror saidOf (λ u. stopOf (u .halt) ≡ Stop.Budget) (a .chain)
+        let b = chain-mirrored (shown n) OnWay walkDone (walkStep ch) ended step mirror saidOf (λ u. stopOf (u .halt) ≡ Stop.Budget)
+            (a .chain)
               (i .walk) (i .same) (i .way) in
         record {
           last = b .last;

@@ -1,8 +1,10 @@
 -- Each theorem used once, on the cases of document 01: no premise is empty.
---   five-steps, five-bits     preparing Five for 1(1) took 5 steps; the root fits at 1 and not at 2
---   five-chain, five-listed   seven turns tell the six answers of 1(1) on Five, in 14 steps, and those are all loose answers
---   five-within               each of them within 2×m×n+1 = 21 steps
---   ten-listed, four-listed   8(9,10) on Ten has just the answer 8 9 10; 2(3,4) on the four entries has none
+--   five-right, five-fits, five-not   preparing Five for 1(1) took 5 steps; the root fits at entry 1 and not at entry 2
+--   five-chain, five-told     seven turns tell the six answers of 1(1) on Five, in 14 steps
+--   sixAnswers, five-listed, five-computed   those are all loose answers, by loose-exactly and by computing the list
+--   five-start-chain, five-from-start, five-next-chain, five-from-answer   the limit, from the start and from an answer
+--   ten-chain, ten-told, ten-listed   8(9,10) on Ten has just the answer 8 9 10
+--   four-chain, four-listed   2(3,4) on the four entries has none
 --   star-count                1(1,1,1) on Five has 72
 use Prim.Native.Nat.{ℕ, _+_}
 use mathlib.Core.Path.{_≡_, refl, _∙_, sym}
@@ -33,7 +35,8 @@ use Rattle.listed.specs.Prepared.{prepare-n}
 use Rattle.listed.specs.Choosing.{looseAnswers, parentOf}
 use Rattle.listed.specs.Exactly.{allLoose, Within, loose-exactly, walk-within}
 use Rattle.listed.specs.Cases.{walk-handed, five, oneOne, four, twoThreeFour, ten, eight, five-accepted, four-accepted, ten-accepted}
-use Rattle.listed.specs.Cases.{fiveTable, fourTable, tenTable, lentFor, clearedFor, five-start, five-turns, five-prepared, four-prepared, ten-prepared}
+use Rattle.listed.specs.Cases.{fiveTable, fourTable, tenTable, lentFor, clearedFor}
+use Rattle.listed.specs.Cases.{five-start, five-turns, five-prepared, four-prepared, ten-prepared}
 
 -- ---- preparing
 
@@ -61,7 +64,8 @@ abbrev over : ℕ → ℕ → WalkTurn
 over n k = record { walk = at (replicate 16 0) 1 (n + 1) Phase.Ended; steps = k; stop = Stop.End }
 
 pub five-chain : WalkTurns five oneOne fiveTable fresh 63 14 (over 5 4)
-unfolding begun ready givenOf turnWithin lengthFault check.inRange run check.stepOf check.closeOf check.nameless check.secondRoot check.accepted cell
+unfolding begun ready givenOf turnWithin lengthFault check.inRange run check.stepOf check.closeOf check.nameless check.secondRoot
+    check.accepted cell
     every hasBit image place imageFits phaseFits inRange endOf badEnd back found walkOn stepOf
 five-chain =
     more {b = 9} (walk-handed _) (more {b = 9} (walk-handed _) (more {b = 9} (walk-handed _) (more {b = 9} (walk-handed _)
@@ -72,7 +76,8 @@ abbrev pub sixAnswers : List (List ℕ)
 sixAnswers = (1 ∷ 2 ∷ []) ∷ (1 ∷ 3 ∷ []) ∷ (1 ∷ 4 ∷ []) ∷ (1 ∷ 5 ∷ []) ∷ (3 ∷ 4 ∷ []) ∷ (3 ∷ 5 ∷ []) ∷ []
 
 pub five-told : told (tellOf 2) five-chain ≡ sixAnswers
-unfolding told five-chain begun ready givenOf turnWithin lengthFault check.inRange run check.stepOf check.closeOf check.nameless check.secondRoot
+unfolding told five-chain begun ready givenOf turnWithin lengthFault check.inRange run check.stepOf check.closeOf check.nameless
+    check.secondRoot
     check.accepted cell every hasBit image place imageFits phaseFits inRange endOf badEnd back found walkOn stepOf
 five-told = refl
 
@@ -93,7 +98,8 @@ firstAnswer k = record { walk = at (1 ∷ 2 ∷ replicate 14 0) 2 2 Phase.Answer
 
 -- two turns from the start to the first answer, and two from there to the second
 pub five-start-chain : WalkTurns five oneOne fiveTable fresh 22 2 (firstAnswer 1)
-unfolding begun ready givenOf turnWithin lengthFault check.inRange run check.stepOf check.closeOf check.nameless check.secondRoot check.accepted cell
+unfolding begun ready givenOf turnWithin lengthFault check.inRange run check.stepOf check.closeOf check.nameless check.secondRoot
+    check.accepted cell
     every hasBit image place imageFits phaseFits inRange endOf badEnd back found walkOn stepOf
 five-start-chain = more {b = 1} (walk-handed _) (one {b = 21} (walk-handed _))
 
@@ -103,11 +109,13 @@ five-from-start = walk-within five oneOne five-accepted fiveTable five-prepared 
 
 pub five-next-chain : WalkTurns five oneOne fiveTable (firstAnswer 1 .walk) 21 1
     (record { walk = at (1 ∷ 3 ∷ replicate 14 0) 2 3 Phase.Answer; steps = 1; stop = Stop.Answer })
-unfolding begun ready givenOf turnWithin lengthFault check.inRange run check.stepOf check.closeOf check.nameless check.secondRoot check.accepted cell
+unfolding begun ready givenOf turnWithin lengthFault check.inRange run check.stepOf check.closeOf check.nameless check.secondRoot
+    check.accepted cell
     every hasBit image place imageFits phaseFits inRange endOf badEnd back found walkOn stepOf
 five-next-chain = more {b = 0} (walk-handed _) (one {b = 21} (walk-handed _))
 
-pub five-from-answer : Within five oneOne 21 1 (record { walk = at (1 ∷ 3 ∷ replicate 14 0) 2 3 Phase.Answer; steps = 1; stop = Stop.Answer })
+pub five-from-answer : Within five oneOne 21 1 (record
+    { walk = at (1 ∷ 3 ∷ replicate 14 0) 2 3 Phase.Answer; steps = 1; stop = Stop.Answer })
 unfolding five-next-chain
 five-from-answer = walk-within five oneOne five-accepted fiveTable five-prepared (handed five-start-chain) five-next-chain (refl, tt)
 
@@ -115,12 +123,14 @@ five-from-answer = walk-within five oneOne five-accepted fiveTable five-prepared
 
 -- "Twig 8(9,10) on Ten": one answer
 pub ten-chain : WalkTurns ten eight tenTable fresh 198 17 (over 10 6)
-unfolding begun ready givenOf turnWithin lengthFault check.inRange run check.stepOf check.closeOf check.nameless check.secondRoot check.accepted cell
+unfolding begun ready givenOf turnWithin lengthFault check.inRange run check.stepOf check.closeOf check.nameless check.secondRoot
+    check.accepted cell
     every hasBit image place imageFits phaseFits inRange endOf badEnd back found walkOn stepOf
 ten-chain = more {b = 99} (walk-handed _) (one {b = 99} (walk-handed _))
 
 pub ten-told : told (tellOf 3) ten-chain ≡ (8 ∷ 9 ∷ 10 ∷ []) ∷ []
-unfolding told ten-chain begun ready givenOf turnWithin lengthFault check.inRange run check.stepOf check.closeOf check.nameless check.secondRoot check.accepted cell
+unfolding told ten-chain begun ready givenOf turnWithin lengthFault check.inRange run check.stepOf check.closeOf check.nameless
+    check.secondRoot check.accepted cell
     every hasBit image place imageFits phaseFits inRange endOf badEnd back found walkOn stepOf
 ten-told = refl
 
@@ -129,14 +139,17 @@ ten-listed = sym (loose-exactly ten eight ten-accepted tenTable ten-prepared ten
 
 -- entries 1,4,5,0; 2,2,4,1; 3,1,4,2; 4,3,5,1 and the twig 2(3,4): none
 pub four-chain : WalkTurns four twoThreeFour fourTable fresh 99 5 (over 4 5)
-unfolding begun ready givenOf turnWithin lengthFault check.inRange run check.stepOf check.closeOf check.nameless check.secondRoot check.accepted cell
+unfolding begun ready givenOf turnWithin lengthFault check.inRange run check.stepOf check.closeOf check.nameless check.secondRoot
+    check.accepted cell
     every hasBit image place imageFits phaseFits inRange endOf badEnd back found walkOn stepOf
 four-chain = one {b = 99} (walk-handed _)
 
 pub four-listed : allLoose four twoThreeFour ≡ []
-unfolding told begun ready givenOf turnWithin lengthFault check.inRange run check.stepOf check.closeOf check.nameless check.secondRoot check.accepted cell
+unfolding told begun ready givenOf turnWithin lengthFault check.inRange run check.stepOf check.closeOf check.nameless check.secondRoot
+    check.accepted cell
     every hasBit image place imageFits phaseFits inRange endOf badEnd back found walkOn stepOf
-four-listed = sym (loose-exactly four twoThreeFour four-accepted fourTable four-prepared (one {b = 99} (walk-handed (walkTurnOf four twoThreeFour fourTable 99 fresh))) .whole refl)
+four-listed = sym (loose-exactly four twoThreeFour four-accepted fourTable four-prepared
+    (one {b = 99} (walk-handed (walkTurnOf four twoThreeFour fourTable 99 fresh))) .whole refl)
 
 -- "1(1,1,1): … 72 loose"
 pub star-count : length (allLoose five (1 ∷ 4 ∷ 5 ∷ 0 ∷ 1 ∷ 1 ∷ 3 ∷ 1 ∷ 1 ∷ 2 ∷ 4 ∷ 1 ∷ 1 ∷ 3 ∷ 5 ∷ 1 ∷ [])) ≡ 72

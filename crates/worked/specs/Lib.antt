@@ -1,5 +1,8 @@
 -- Worked: document 01's starred cases.
 pub mod Case
 pub mod Check
+pub mod Axes
+pub mod Records
+pub mod Loose
 pub mod Starred
 pub mod Instances

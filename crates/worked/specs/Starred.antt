@@ -7,12 +7,40 @@ use Rattle.checking.specs.Rule.{stepOf, closeOf, accepted, nameless, secondRoot
 use Rattle.checking.specs.Turn.{turnWithin, lengthFault}
 use Rattle.trees.specs.Signature.{cell}
 use Rattle.worked.specs.Case.{Case}
+use Rattle.xpath.specs.Select.{upTo, some, rises, within}
+use Rattle.xpath.specs.Axes.{met, parentOf, ancestorOrSelf, wholeBefore, siblingBefore, onAxis, passes, chosen, pth, kept}
+use Rattle.axes.specs.Checked.{afterCheck}
+use Rattle.axes.specs.Axis.{argumentsFine, roomFor, axisWithin}
+use Rattle.trees.specs.Tags.{tagsOf, opened, closed, rowsOf, oneTree, treeOf}
+use Rattle.records.specs.Bytes.{marked}
+use Rattle.records.specs.Scans.{stepBy}
+use Rattle.records.specs.Room.{leftBy}
+use Rattle.records.specs.Records.{recordFault, recordsEnd, numbersFrom, bytesFrom, namelessFrom, writeFault}
+use Rattle.records.specs.TagLists.{tagBytes, rootClosed, namelessAt, misnested, tagFault, tagNext, treeEnd, tagsFrom}
+use Rattle.records.specs.TagsBack.{rowFrom, backLeft}
 use Rattle.worked.specs.Check as Check
+use Rattle.worked.specs.Axes as Axes
+use Rattle.worked.specs.Records as Records
+
+use Rattle.loose.specs.Masks.{every, hasBit, mask, put}
+use Rattle.loose.specs.Given.{givenOf, ready, begun}
+use Rattle.loose.specs.Preparing.{childrenIn, stands, canOf, badParent, written, joined, stepTable, prepStep}
+use Rattle.loose.specs.Preparing.{passes as twigPasses}
+use Rattle.loose.specs.PrepTurn.{cleared, startFault}
+use Rattle.loose.specs.Walking.{image, place, imageFits, phaseFits, endOf, badEnd, back, found, walkOn}
+use Rattle.loose.specs.Walking.{inRange as walkRange, stepOf as walkStep}
+use Rattle.worked.specs.Loose as Loose
+use Rattle.worked.specs.Loose.{walked, counted}
 
 -- every starred case
 abbrev pub cases : List Case
-cases = Check.cases
+cases = Check.cases ++ Axes.cases ++ Records.cases ++ Loose.cases
 
 pub starred : map (λ (c : Case). c .got) cases ≡ map (λ (c : Case). c .wanted) cases
 unfolding run turnWithin lengthFault inRange stepOf closeOf nameless secondRoot accepted cell
+    upTo some rises within met parentOf ancestorOrSelf wholeBefore siblingBefore onAxis passes chosen pth kept afterCheck argumentsFine roomFor axisWithin
+    tagsOf opened closed rowsOf oneTree treeOf marked stepBy leftBy recordFault recordsEnd numbersFrom bytesFrom namelessFrom writeFault
+    tagBytes rootClosed namelessAt misnested tagFault tagNext treeEnd tagsFrom rowFrom backLeft
+    every hasBit mask put givenOf ready begun childrenIn stands canOf badParent written joined stepTable prepStep twigPasses cleared startFault
+    image place imageFits phaseFits endOf badEnd back found walkOn walkRange walkStep walked counted
 starred = refl

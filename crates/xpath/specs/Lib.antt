@@ -11,3 +11,5 @@ pub mod Rising
 pub mod Kept
 pub mod NodeLists
 pub mod Says
+pub mod Spread
+pub mod SpreadKids

@@ -18,13 +18,13 @@ use Rattle.axes.proofs.is_chosen.Reads as is-chosen-reads
 use Rattle.axes.proofs.is_kept.Reads as is-kept-reads
 
 abbrev Inv-loop : tie.InvT-loop
-Inv-loop sig n axis test p c marks₀ count₀ j₀ marks count j =
-    (j ≤ n) × (count ≡ length (upTo j (chosen axis n (entriesOf width sig .fa) (entriesOf width sig .name) test c)))
+Inv-loop sig n axis test p c marks₀ met₀ j₀ marks met j =
+    (j ≤ n) × (met ≡ length (upTo j (chosen axis n (entriesOf width sig .fa) (entriesOf width sig .name) test c)))
     × (length marks ≡ 4097)
     × Partly n (kept p (chosen axis n (entriesOf width sig .fa) (entriesOf width sig .name) test c)) j marks₀ marks
 
 abbrev μ-loop : tie.MeasureT-loop
-μ-loop sig n axis test p c marks₀ count₀ j₀ marks count j = n - j
+μ-loop sig n axis test p c marks₀ met₀ j₀ marks met j = n - j
 
 -- src/lib.rt:272:5
 loop-holds : tie.Need-loop-holds Inv-loop μ-loop
@@ -40,8 +40,8 @@ is-chosen-requires : tie.Need-is-chosen-requires Inv-loop μ-loop
 is-chosen-requires c κs = search needs
 
 -- src/lib.rt:275:13
-add-count : tie.Need-add-count Inv-loop μ-loop
-add-count c = let a = c .before .before .before .before .before .args in omega (arith, c .before .before .before .before .before .pre .0 .small, up-length (chosen (a .axis) (a .n) (entriesOf width (a .sig .now) .fa) (entriesOf width (a .sig .now) .name) (a .test) (a .c)) (c .before .before .before .loop .j))
+add-met : tie.Need-add-met Inv-loop μ-loop
+add-met c = let a = c .before .before .before .before .before .args in omega (arith, c .before .before .before .before .before .pre .0 .small, up-length (chosen (a .axis) (a .n) (entriesOf width (a .sig .now) .fa) (entriesOf width (a .sig .now) .name) (a .test) (a .c)) (c .before .before .before .loop .j))
 
 -- src/lib.rt:276:16
 is-kept-requires : tie.Need-is-kept-requires Inv-loop μ-loop
@@ -106,7 +106,7 @@ mark-context-spec =
     loop-holds
     add-j
     is-chosen-requires
-    add-count
+    add-met
     is-kept-requires
     cast-at
     element-write-marks

@@ -9,31 +9,31 @@ use Rattle.checking.proofs.CheckState.turn.Reads as turn-reads
 use Rattle.kiosk.proofs.kind_of.Reads as kind-of-reads
 use Rattle.kiosk.proofs.tell_stop.Reads as tell-stop-reads
 
--- src/lib.rt:52:23
+
 element-copy-out-t15 : tie.Need-element-copy-out-t15
 element-copy-out-t15 c = search needs
 
--- src/lib.rt:53:22
+
 element-copy-out-t19 : tie.Need-element-copy-out-t19
 element-copy-out-t19 c = search needs
 
--- src/lib.rt:54:26
+
 element-copy-out-t23 : tie.Need-element-copy-out-t23
 element-copy-out-t23 c = search needs
 
--- src/lib.rt:56:29
+
 kind-of-requires : tie.Need-kind-of-requires
 kind-of-requires c κs = search needs
 
--- src/lib.rt:56:9
+
 turn-requires : tie.Need-turn-requires
 turn-requires c κs = search needs
 
--- src/lib.rt:63:5
+
 tell-stop-requires : tie.Need-tell-stop-requires
 tell-stop-requires c κs = search needs
 
--- src/lib.rt:44:1
+
 returns : tie.Need-returns
 returns c =
     let turn = c .before .before .before .before .turn in

@@ -1,0 +1,33 @@
+-- Level, block and axes: what is said stands for what the call answers.
+use Prim.Native.Nat.{ℕ}
+use mathlib.Core.Path.{_≡_}
+use mathlib.Core.List.{List, [], _∷_}
+use Rattle.checking.specs.declared.Written.{Written}
+use Rattle.checking.specs.Stops.{answered}
+use Rattle.axes.specs.declared.LevelAnswer.{LevelAnswer}
+use Rattle.axes.specs.declared.PlaceAnswer.{PlaceAnswer}
+use Rattle.axes.specs.Level.{Leveled, levelTold, LevelPromise}
+use Rattle.axes.specs.Block.{Placed, placeTold, PlacePromise}
+use Rattle.axes.specs.Axis.{AxisPromise}
+use Rattle.kiosk.specs.Numbers.{Says, AnswerTold}
+use Rattle.kiosk.specs.Axes.{LevelSaid, LevelNumbers, PlaceSaid, PlaceNumbers, AxisNumbers}
+use Rattle.kiosk.proofs.Laws.{says-of, says-as, answer-as}
+
+pub level-told : (a b : LevelAnswer) → a ≡ b → LevelSaid a (levelTold b .number) (levelTold b .level ∷ levelTold b .entry ∷ [])
+level-told a b q = says-of LevelAnswer (λ x. levelTold x .number) (λ x. levelTold x .level ∷ levelTold x .entry ∷ []) a b q
+
+pub level-left : (s : List ℕ) (i : ℕ) (a : LevelAnswer) (r : ℕ) (o : List ℕ) → LevelPromise s i a → LevelSaid a r o → LevelNumbers s i r o
+level-left s i a r o q z = says-as Leveled (λ x. x .number) (λ x. x .level ∷ x .entry ∷ []) _ _ r o q z
+
+pub place-told :
+    (a b : PlaceAnswer) → a ≡ b → PlaceSaid a (placeTold b .number) (placeTold b .first ∷ placeTold b .count ∷ placeTold b .entry ∷ [])
+place-told a b q =
+    says-of PlaceAnswer (λ x. placeTold x .number) (λ x. placeTold x .first ∷ placeTold x .count ∷ placeTold x .entry ∷ []) a b q
+
+pub place-left : (s : List ℕ) (i : ℕ) (a : PlaceAnswer) (r : ℕ) (o : List ℕ) → PlacePromise s i a → PlaceSaid a r o → PlaceNumbers s i r o
+place-left s i a r o q z = says-as Placed (λ x. x .number) (λ x. x .first ∷ x .count ∷ x .entry ∷ []) _ _ r o q z
+
+pub axis-left :
+    (s c : List ℕ) (axis name p : ℕ) (room : List ℕ) (w : Written) (after : List ℕ) (r : ℕ) (o : List ℕ) →
+    AxisPromise s c axis name p room w after → AnswerTold (answered w) r o → AxisNumbers s c axis name p room r after o
+axis-left s c axis name p room w after r o h z = record { says = answer-as _ _ r o (h .said) z; left = h .left }

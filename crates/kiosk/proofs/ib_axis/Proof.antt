@@ -1,0 +1,27 @@
+use Rattle.kiosk.proofs.AxisLaws.{axis-left}
+use native.Mathlib.Omega.{arith}
+use borrow.Author.Needs.{needs}
+use Rattle.kiosk.proofs.ib_axis.Statement.{statement}
+use Rattle.kiosk.proofs.ib_axis.Tie as tie
+
+-- src/lib.rt:185:9
+axis-requires : tie.Need-axis-requires
+axis-requires c κs = search needs
+
+-- src/lib.rt:186:5
+tell-written-requires : tie.Need-tell-written-requires
+tell-written-requires c κs = search needs
+
+-- src/lib.rt:169:1
+same-length : tie.Need-same-length
+same-length c = search needs
+
+-- src/lib.rt:169:1
+returns : tie.Need-returns
+returns c =
+    let a = c .before .before .before .before .before .before .before .before .before .args in
+    axis-left (a .sig .now) (a .contexts .now) (a .axis) (a .name) (a .position) _ (c .before .before .before .before .axis .result) _ _ _
+    (c .before .before .before .before .axis .ensures) (c .tell-written .ensures)
+
+pub ib-axis-spec : {M : Type 1} → statement M
+ib-axis-spec = tie.close (tie.spec axis-requires tell-written-requires same-length returns)

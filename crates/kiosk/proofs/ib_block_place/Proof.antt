@@ -1,0 +1,22 @@
+use Rattle.kiosk.proofs.AxisLaws.{place-left}
+use native.Mathlib.Omega.{arith}
+use borrow.Author.Needs.{needs}
+use Rattle.kiosk.proofs.ib_block_place.Statement.{statement}
+use Rattle.kiosk.proofs.ib_block_place.Tie as tie
+
+-- src/lib.rt:164:9
+block-place-requires : tie.Need-block-place-requires
+block-place-requires c κs = search needs
+
+-- src/lib.rt:165:5
+tell-place-requires : tie.Need-tell-place-requires
+tell-place-requires c κs = search needs
+
+-- src/lib.rt:160:1
+returns : tie.Need-returns
+returns c =
+    let a = c .before .before .before .before .args in
+    place-left (a .sig .now) (a .rank) (c .before .before .block-place .result) _ _ (c .before .before .block-place .ensures) (c .tell-place .ensures)
+
+pub ib-block-place-spec : {M : Type 1} → statement M
+ib-block-place-spec = tie.close (tie.spec block-place-requires tell-place-requires returns)

@@ -1,0 +1,27 @@
+use Rattle.kiosk.proofs.LooseLaws.{start-left}
+use native.Mathlib.Omega.{arith}
+use borrow.Author.Needs.{needs}
+use Rattle.kiosk.proofs.ib_prepare_start.Statement.{statement}
+use Rattle.kiosk.proofs.ib_prepare_start.Tie as tie
+
+-- src/lib.rt:194:9
+prepare-start-requires : tie.Need-prepare-start-requires
+prepare-start-requires c κs = search needs
+
+-- src/lib.rt:195:5
+tell-start-requires : tie.Need-tell-start-requires
+tell-start-requires c κs = search needs
+
+-- src/lib.rt:190:1
+same-length : tie.Need-same-length
+same-length c = search needs
+
+-- src/lib.rt:190:1
+returns : tie.Need-returns
+returns c =
+    let a = c .before .before .before .before .before .before .before .args in
+    start-left (a .n) _ (c .before .before .before .before .prepare-start .result) _ _ _ (c .before .before .before .before .prepare-start .ensures) (c .tell-start .ensures)
+
+pub ib-prepare-start-spec : {M : Type 1} → statement M
+ib-prepare-start-spec =
+    tie.close (tie.spec prepare-start-requires tell-start-requires same-length returns)

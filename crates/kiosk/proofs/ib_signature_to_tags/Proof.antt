@@ -1,0 +1,24 @@
+use borrow.Author.Needs.{needs}
+use Rattle.kiosk.proofs.ib_signature_to_tags.Statement.{statement}
+use Rattle.kiosk.proofs.ib_signature_to_tags.Tie as tie
+
+kind-of-requires : tie.Need-kind-of-requires
+kind-of-requires c κs = search needs
+
+signature-to-tags-requires : tie.Need-signature-to-tags-requires
+signature-to-tags-requires c κs = search needs
+
+tell-written-requires : tie.Need-tell-written-requires
+tell-written-requires c κs = search needs
+
+same-length : tie.Need-same-length
+same-length c = search needs
+
+returns : tie.Need-returns
+returns c =
+    let got = c .before .before .before .before .signature-to-tags in
+    let which = c .before .before .before .before .before .before .kind-of in
+    record { answer = got .result; promised = rw (which .ensures) at (got .ensures); says = c .tell-written .ensures }
+
+pub ib-signature-to-tags-spec : {M : Type 1} → statement M
+ib-signature-to-tags-spec = tie.close (tie.spec kind-of-requires signature-to-tags-requires tell-written-requires same-length returns)

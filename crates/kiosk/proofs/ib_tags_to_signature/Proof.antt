@@ -1,0 +1,24 @@
+use borrow.Author.Needs.{needs}
+use Rattle.kiosk.proofs.ib_tags_to_signature.Statement.{statement}
+use Rattle.kiosk.proofs.ib_tags_to_signature.Tie as tie
+
+kind-of-requires : tie.Need-kind-of-requires
+kind-of-requires c κs = search needs
+
+tags-to-signature-requires : tie.Need-tags-to-signature-requires
+tags-to-signature-requires c κs = search needs
+
+tell-written-requires : tie.Need-tell-written-requires
+tell-written-requires c κs = search needs
+
+same-length : tie.Need-same-length
+same-length c = search needs
+
+returns : tie.Need-returns
+returns c =
+    let got = c .before .before .before .before .tags-to-signature in
+    let which = c .before .before .before .before .before .before .kind-of in
+    record { answer = got .result; promised = rw (which .ensures) at (got .ensures); says = c .tell-written .ensures }
+
+pub ib-tags-to-signature-spec : {M : Type 1} → statement M
+ib-tags-to-signature-spec = tie.close (tie.spec kind-of-requires tags-to-signature-requires tell-written-requires same-length returns)

@@ -1,0 +1,131 @@
+-- Signature records: which refusal a record has under which facts, and what a record without one is.
+--   marked-…          the test of a mark
+--   record-…          the refusals of a record, in their order
+--   record-passed     what a record without refusal is
+use Prim.Native.Nat.{ℕ, zero, suc, _+_, _-_, _*_, _/_, _≤_, _<_}
+use mathlib.Core.Path.{_≡_, refl, ap, _∙_, sym}
+use mathlib.Core.Bool.{Bool, true, false, not, _&&_}
+use mathlib.Core.List.{List, [], _∷_}
+use native.Mathlib.Omega.{arith}
+use lib.ListN.{length, getD}
+use lib.Dec.{ltb, leb, eqb}
+use borrow.Author.Tests.{ltb-true, ltb-false, leb-true, leb-false, eqb-true, eqb-false, lt-ltb, le-ltb, le-leb, lt-leb, eq-eqb, ne-eqb}
+use Rattle.turns.specs.Pick.{pick}
+use Rattle.records.specs.declared.Scan.{Scan}
+use Rattle.records.specs.Bytes.{numberAt, marked}
+use Rattle.records.specs.Scans.{firstFault}
+use Rattle.records.specs.Records.{recordFault, recordsEnd, writeFault, namelessFrom}
+use Rattle.trees.specs.Signature.{width}
+use Rattle.checking.specs.Kinds.{most}
+use Rattle.checking.specs.Turn.{lengthFault}
+use Rattle.checking.specs.declared.Kind.{Kind}
+
+module _ (b : List ℕ) (p x y : ℕ) where
+  pub marked-first : (getD b p 0 ≡ x → ⊥) → marked b p x y ≡ false
+  unfolding marked
+  marked-first h = simp (ne-eqb _ _ h)
+
+  pub marked-second : (getD b (p + 1) 0 ≡ y → ⊥) → marked b p x y ≡ false
+  unfolding marked
+  marked-second h = go (eqb (getD b p 0) x)
+    where
+      go : (t : Bool) → (t && eqb (getD b (p + 1) 0) y) ≡ false
+      go true = ne-eqb _ _ h
+      go false = refl
+
+  pub marked-yes : getD b p 0 ≡ x → getD b (p + 1) 0 ≡ y → marked b p x y ≡ true
+  unfolding marked
+  marked-yes h k = simp (eq-eqb _ _ h, eq-eqb _ _ k)
+
+  pub marked-is : marked b p x y ≡ true → (getD b p 0 ≡ x) × (getD b (p + 1) 0 ≡ y)
+  unfolding marked
+  marked-is = go (eqb (getD b p 0) x) (eqb (getD b (p + 1) 0) y) refl refl
+    where
+      go : (s t : Bool) → eqb (getD b p 0) x ≡ s → eqb (getD b (p + 1) 0) y ≡ t → (s && t) ≡ true → (getD b p 0 ≡ x) × (getD b (p + 1) 0 ≡ y)
+      go true true u v h = (eqb-true _ _ u, eqb-true _ _ v)
+      go true false u v h = let z : _≡_ {A = ℕ} 0 1 = cc in absurd (omega arith)
+      go false t u v h = let z : _≡_ {A = ℕ} 0 1 = cc in absurd (omega arith)
+
+module _ (b : List ℕ) (st : Scan) where
+  pub records-end : st .at ≡ length b → 0 < st .count → recordsEnd b st ≡ true
+  unfolding recordsEnd
+  records-end h k = simp (eq-eqb _ _ h, lt-ltb _ _ k)
+
+  pub records-more : (st .at ≡ length b → ⊥) → recordsEnd b st ≡ false
+  unfolding recordsEnd
+  records-more h = simp (ne-eqb _ _ h)
+
+  pub records-none : st .count ≤ 0 → recordsEnd b st ≡ false
+  unfolding recordsEnd
+  records-none h = go (eqb (st .at) (length b))
+    where
+      go : (t : Bool) → (t && ltb 0 (st .count)) ≡ false
+      go true = le-ltb _ _ h
+      go false = refl
+
+  pub record-cut : length b < st .at + 2 → recordFault b st ≡ 1
+  unfolding recordFault
+  record-cut h = simp (lt-ltb _ _ h)
+
+  module _ (mark : st .at + 2 ≤ length b) where
+    pub record-unknown : marked b (st .at) 83 69 ≡ false → recordFault b st ≡ 2
+    unfolding recordFault
+    record-unknown h = simp (le-ltb _ _ mark, h)
+
+    module _ (known : marked b (st .at) 83 69 ≡ true) where
+      pub record-body : length b < st .at + 10 → recordFault b st ≡ 1
+      unfolding recordFault
+      record-body h = simp (le-ltb _ _ mark, known, lt-ltb _ _ h)
+
+      module _ (whole : st .at + 10 ≤ length b) where
+        pub record-nameless : numberAt b (st .at + 2) ≡ 0 → recordFault b st ≡ 3
+        unfolding recordFault
+        record-nameless h = simp (le-ltb _ _ mark, known, le-ltb _ _ whole, eq-eqb _ _ h)
+
+        module _ (named : numberAt b (st .at + 2) ≡ 0 → ⊥) where
+          pub record-over : 4096 ≤ st .count → recordFault b st ≡ 7
+          unfolding recordFault
+          record-over h = simp (le-ltb _ _ mark, known, le-ltb _ _ whole, ne-eqb _ _ named, le-leb _ _ h)
+
+          pub record-fine : st .count < 4096 → recordFault b st ≡ 0
+          unfolding recordFault
+          record-fine h = simp (le-ltb _ _ mark, known, le-ltb _ _ whole, ne-eqb _ _ named, lt-leb _ _ h)
+
+  -- a record without refusal
+  pub record Passed : Type 0 where
+    pub known : marked b (st .at) 83 69 ≡ true
+    pub whole : st .at + 10 ≤ length b
+    pub named : numberAt b (st .at + 2) ≡ 0 → ⊥
+    pub room : st .count < 4096
+
+  pub record-passed : recordFault b st ≡ 0 → Passed
+  unfolding recordFault
+  record-passed =
+      go (ltb (length b) (st .at + 2)) (marked b (st .at) 83 69) (ltb (length b) (st .at + 10)) (eqb (numberAt b (st .at + 2)) 0)
+      (leb 4096 (st .count)) refl refl refl refl
+    where
+      go : (m k w z o : Bool) → marked b (st .at) 83 69 ≡ k → ltb (length b) (st .at + 10) ≡ w → eqb (numberAt b (st .at + 2)) 0 ≡ z
+          → leb 4096 (st .count) ≡ o → firstFault m (not k) w z false o ≡ 0 → Passed
+      go true k w z o hk hw hz ho h = absurd (omega arith)
+      go false false w z o hk hw hz ho h = absurd (omega arith)
+      go false true true z o hk hw hz ho h = absurd (omega arith)
+      go false true false true o hk hw hz ho h = absurd (omega arith)
+      go false true false false true hk hw hz ho h = absurd (omega arith)
+      go false true false false false hk hw hz ho h =
+          record { known = hk; whole = ltb-false _ _ hw; named = eqb-false _ _ hz; room = leb-false _ _ ho }
+
+-- ---- a signature to be written
+
+module _ (s : List ℕ) where
+  pub write-length : (lengthFault (most Kind.Data) width (length s) ≡ 0 → ⊥) → writeFault s ≡ lengthFault (most Kind.Data) width (length s)
+  unfolding writeFault
+  write-length h = simp (ne-eqb _ _ h)
+
+  module _ (fine : lengthFault (most Kind.Data) width (length s) ≡ 0) where
+    pub write-nameless : namelessFrom s 0 (length s / 4) ≡ true → writeFault s ≡ 3
+    unfolding writeFault
+    write-nameless h = simp (eq-eqb _ _ fine, h)
+
+    pub write-fine : namelessFrom s 0 (length s / 4) ≡ false → writeFault s ≡ 0
+    unfolding writeFault
+    write-fine h = simp (eq-eqb _ _ fine, h)

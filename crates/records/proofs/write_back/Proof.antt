@@ -1,0 +1,61 @@
+use mathlib.Core.Path.{refl}
+use Rattle.records.proofs.Rooms.{short-with, written-with}
+use Rattle.records.proofs.Emit.{back-length}
+use Rattle.records.proofs.Back.{signature-long}
+use native.Mathlib.Omega.{arith}
+use borrow.Author.Needs.{needs}
+use Rattle.records.proofs.write_back.Statement.{statement}
+use Rattle.records.proofs.write_back.Tie as tie
+use Rattle.records.proofs.write_back.Reads as reads
+use Rattle.records.proofs.write_back.Lts as lts
+use Rattle.records.proofs.refused.Reads as refused-reads
+use Rattle.records.proofs.write_tags.Reads as write-tags-reads
+
+-- src/lib.rt:668:9
+refused-requires : tie.Need-refused-requires
+refused-requires c κs = search needs
+
+-- src/lib.rt:668:9
+returns : tie.Need-returns
+returns c =     let a = c .before .before .before .before .args in
+    let t = c .before .before .before .before .pre in
+    short-with _ _ _ _ 0 refl (c .refused .ensures) refl (omega (arith, back-length (a .sig .now) (t .0) (t .1), signature-long (a .sig .now) (t .0) (t .1)))
+
+-- src/lib.rt:670:21
+cast-write-tags : tie.Need-cast-write-tags
+cast-write-tags c =     let t = c .before .before .before .pre in
+    omega (arith, t .2, signature-long (c .before .before .before .args .sig .now) (t .0) (t .1))
+
+-- src/lib.rt:670:5
+write-tags-requires : tie.Need-write-tags-requires
+write-tags-requires c κs =     let t = c .before .before .before .before .pre in
+    let n = signature-long (c .before .before .before .before .args .sig .now) (t .0) (t .1) in
+    (omega (arith, n, t .2), omega (arith, n, t .2), (t .0, t .1, omega (arith, n, t .2)))
+
+-- src/lib.rt:671:21
+mul-t4 : tie.Need-mul-t4
+mul-t4 c = search needs
+
+-- src/lib.rt:662:1
+same-length : tie.Need-same-length
+same-length c = search needs
+
+-- src/lib.rt:662:1
+returns-2 : tie.Need-returns-2
+returns-2 c =     let a = c .before .before .before .before .before .before .before .args in
+    let t = c .before .before .before .before .before .before .before .pre in
+    let n = signature-long (a .sig .now) (t .0) (t .1) in
+    let k = back-length (a .sig .now) (t .0) (t .1) in
+    written-with _ _ _ _ 0 refl _ _ refl refl (omega (arith, n, k)) (omega (arith, n, k)) (c .before .before .write-tags .ensures)
+
+pub write-back-spec : {M : Type 1} → statement M
+write-back-spec =
+    tie.close
+    (tie.spec
+    refused-requires
+    returns
+    cast-write-tags
+    write-tags-requires
+    mul-t4
+    same-length
+    returns-2)

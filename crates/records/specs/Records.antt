@@ -1,0 +1,74 @@
+-- Signature records: "`SE` and the four numbers, 10 bytes".
+--   recordFault b st        the refusal of the record at the scan's place
+--   recordsScan b           all records of b
+--   numbersFrom b p n       the numbers of n records from place p on
+--   bytesFrom s k n         the records of n entries, from number k of the signature on
+--   ReadPromise, WritePromise   the promises of the two calls
+use Prim.Native.Nat.{ℕ, zero, suc, _+_, _*_, _/_, _≤_}
+use mathlib.Core.Path.{_≡_}
+use mathlib.Core.Bool.{Bool, true, false, not, _&&_, _||_}
+use mathlib.Core.List.{List, [], _∷_}
+use lib.ListN.{length, getD}
+use lib.Dec.{ltb, leb, eqb}
+use Rattle.turns.specs.Pick.{pick}
+use Rattle.turns.specs.Turn.{Turned}
+use Rattle.trees.specs.Signature.{width}
+use Rattle.checking.specs.Kinds.{most}
+use Rattle.checking.specs.Turn.{lengthFault}
+use Rattle.checking.specs.declared.Kind.{Kind}
+use Rattle.checking.specs.declared.Written.{Written}
+use Rattle.records.specs.declared.Scan.{Scan}
+use Rattle.records.specs.Bytes.{numberAt, low, high, marked}
+use Rattle.records.specs.Scans.{firstFault, begin, scanBy, haltNumber}
+use Rattle.records.specs.Room.{RoomPromise}
+
+-- "Signature-record calls judge only the name."
+unfoldable pub recordFault : List ℕ → Scan → ℕ
+recordFault b st =
+    firstFault (ltb (length b) (st .at + 2)) (not (marked b (st .at) 83 69)) (ltb (length b) (st .at + 10))
+    (eqb (numberAt b (st .at + 2)) 0) false (leb (most Kind.Data) (st .count))
+
+abbrev pub recordNext : Scan → Scan
+recordNext st = record { at = st .at + 10; depth = st .depth; count = st .count + 1 }
+
+-- some record, and no byte after the last one
+unfoldable pub recordsEnd : List ℕ → Scan → Bool
+recordsEnd b st = eqb (st .at) (length b) && ltb 0 (st .count)
+
+abbrev pub recordsScan : List ℕ → Turned Scan
+recordsScan b = scanBy (recordsEnd b) (recordFault b) recordNext (length b) (begin 0)
+
+-- the four numbers stand after the mark
+unfoldable pub numbersFrom : List ℕ → ℕ → ℕ → List ℕ
+numbersFrom b p zero = []
+numbersFrom b p (suc n) =
+    numberAt b (p + 2) ∷ numberAt b (p + 4) ∷ numberAt b (p + 6) ∷ numberAt b (p + 8) ∷ numbersFrom b (p + 10) n
+
+-- the promise of reading signature records
+abbrev pub ReadPromise : List ℕ → List ℕ → Written → List ℕ → Type 0
+ReadPromise b room w after =
+    RoomPromise (haltNumber (recordsScan b .halt)) 0 (numbersFrom b 0 (recordsScan b .state .count)) room w after
+
+-- "`SE` and the four numbers"
+abbrev pub entryBytes : ℕ → ℕ → ℕ → ℕ → List ℕ → List ℕ
+entryBytes a p f u rest = 83 ∷ 69 ∷ low a ∷ high a ∷ low p ∷ high p ∷ low f ∷ high f ∷ low u ∷ high u ∷ rest
+
+unfoldable pub bytesFrom : List ℕ → ℕ → ℕ → List ℕ
+bytesFrom s k zero = []
+bytesFrom s k (suc n) = entryBytes (getD s k 0) (getD s (k + 1) 0) (getD s (k + 2) 0) (getD s (k + 3) 0) (bytesFrom s (k + 4) n)
+
+-- a name of n entries, from number k on, is 0
+unfoldable pub namelessFrom : List ℕ → ℕ → ℕ → Bool
+namelessFrom s k zero = false
+namelessFrom s k (suc n) = eqb (getD s k 0) 0 || namelessFrom s (k + 4) n
+
+-- "whole length (1, then 7), contents from the front"
+unfoldable pub writeFault : List ℕ → ℕ
+writeFault s =
+    pick (eqb (lengthFault (most Kind.Data) width (length s)) 0)
+    (pick (namelessFrom s 0 (length s / 4)) 3 0)
+    (lengthFault (most Kind.Data) width (length s))
+
+-- the promise of writing signature records
+abbrev pub WritePromise : List ℕ → List ℕ → Written → List ℕ → Type 0
+WritePromise s room w after = RoomPromise (writeFault s) 0 (bytesFrom s 0 (length s / 4)) room w after

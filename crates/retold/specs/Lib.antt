@@ -1,0 +1,11 @@
+-- Retold: theorems over the promises of the record calls.
+pub mod Rooms
+pub mod Taken
+pub mod Names
+pub mod Sound
+pub mod Complete
+pub mod Ends
+pub mod Exact
+pub mod There
+pub mod RecordsThere
+pub mod ShutOut

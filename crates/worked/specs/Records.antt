@@ -1,0 +1,61 @@
+-- Ten and Five there and back: as tag lists and as signature records. Each case is what the call's promise cites, evaluated: whether it refused, number,
+-- length and entry, and then what a room one longer than the result holds.
+use Prim.Native.Nat.{ℕ, suc, _/_}
+use mathlib.Core.Bool.{true, false}
+use mathlib.Core.List.{List, [], _∷_, _++_}
+use lib.ListN.{length, replicate}
+use Rattle.checking.specs.declared.Kind.{Kind}
+use Rattle.checked.specs.Menus.{ten}
+use Rattle.records.specs.Scans.{haltNumber}
+use Rattle.records.specs.Room.{Left, leftBy}
+use Rattle.records.specs.Records.{recordsScan, numbersFrom, bytesFrom, writeFault}
+use Rattle.records.specs.TagLists.{treeScan, numbersIn}
+use Rattle.records.specs.TagsBack.{backLeft}
+use Rattle.worked.specs.Case.{Case}
+
+abbrev five : List ℕ
+five =
+    1 ∷ 5 ∷ 6 ∷ 0 ∷ 1 ∷ 1 ∷ 3 ∷ 1 ∷ 1 ∷ 4 ∷ 6 ∷ 1 ∷ 1 ∷ 2 ∷ 5 ∷ 3 ∷ 1 ∷ 3 ∷ 6 ∷ 3 ∷ []
+
+abbrev tenTags : List ℕ
+tenTags =
+    79 ∷ 80 ∷ 1 ∷ 0 ∷ 79 ∷ 80 ∷ 2 ∷ 0 ∷ 79 ∷ 80 ∷ 3 ∷ 0 ∷ 79 ∷ 80 ∷ 4 ∷ 0 ∷ 67 ∷ 76 ∷ 79 ∷ 80 ∷ 5 ∷ 0 ∷ 67 ∷ 76 ∷ 67 ∷ 76 ∷ 79 ∷
+    80 ∷ 7 ∷ 0 ∷ 67 ∷ 76 ∷ 67 ∷ 76 ∷ 79 ∷ 80 ∷ 6 ∷ 0 ∷ 79 ∷ 80 ∷ 8 ∷ 0 ∷ 79 ∷ 80 ∷ 9 ∷ 0 ∷ 67 ∷ 76 ∷ 79 ∷ 80 ∷ 10 ∷ 0 ∷ 67 ∷ 76 ∷
+    67 ∷ 76 ∷ 67 ∷ 76 ∷ 67 ∷ 76 ∷ []
+
+abbrev fiveTags : List ℕ
+fiveTags =
+    79 ∷ 80 ∷ 1 ∷ 0 ∷ 79 ∷ 80 ∷ 1 ∷ 0 ∷ 67 ∷ 76 ∷ 79 ∷ 80 ∷ 1 ∷ 0 ∷ 79 ∷ 80 ∷ 1 ∷ 0 ∷ 67 ∷ 76 ∷ 79 ∷ 80 ∷ 1 ∷ 0 ∷ 67 ∷ 76 ∷ 67 ∷
+    76 ∷ 67 ∷ 76 ∷ []
+
+abbrev left : Left → List ℕ
+left x = x .answer .refused ∷ x .answer .number ∷ x .answer .length ∷ x .answer .entry ∷ x .room
+
+-- a room one longer than the result, full of nines
+abbrev room : List ℕ → List ℕ
+room result = replicate (suc (length result)) 9
+
+-- it worked, with this result at the front and one nine beyond it
+abbrev done : List ℕ → List ℕ
+done result = 0 ∷ 0 ∷ length result ∷ 0 ∷ (result ++ (9 ∷ []))
+
+-- a tag list read as a signature, and a signature written as a tag list
+abbrev there : List ℕ → List ℕ → Case
+there b s = record {
+  got = left (leftBy (haltNumber (treeScan true false 4096 b 0 .halt)) 0 (numbersIn b 0 (treeScan true false 4096 b 0 .state .count)) (room s));
+  wanted = done s;
+}
+
+abbrev back : List ℕ → List ℕ → Case
+back s b = record { got = left (backLeft Kind.Data s (room b)); wanted = done b }
+
+-- the same for signature records, written and read back
+abbrev records : List ℕ → Case
+records s = record {
+  got = left (leftBy (haltNumber (recordsScan (bytesFrom s 0 (length s / 4)) .halt)) 0
+    (numbersFrom (bytesFrom s 0 (length s / 4)) 0 (recordsScan (bytesFrom s 0 (length s / 4)) .state .count)) (room s));
+  wanted = done s;
+}
+
+abbrev pub cases : List Case
+cases = there tenTags ten ∷ back ten tenTags ∷ there fiveTags five ∷ back five fiveTags ∷ records ten ∷ records five ∷ []
