@@ -4,3 +4,4 @@ pub mod Check
 pub mod Axes
 pub mod Starred
 pub mod Instances
+pub mod AxesShut
