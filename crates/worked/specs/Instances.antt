@@ -28,7 +28,7 @@ use Rattle.checked.specs.Menus.{ten, wrongPost}
 
 -- ---- a tree yields Ten
 
-allowed : (a : ℕ) → a < 65535 → Allowed false (suc a)
+pub allowed : (a : ℕ) → a < 65535 → Allowed false (suc a)
 allowed a h = record { code = omega arith; some = λ z. omega arith }
 
 abbrev pub tenTree : Tree
@@ -39,7 +39,7 @@ tenTree = record {
       (elem 6 (elem 8 (elem 9 none (elem 10 none none)) none) none);
 }
 
-pub ten-yields : Yields Kind.Data ten
+abbrev pub ten-yields : Yields Kind.Data ten
 ten-yields = record {
   tree = tenTree;
   grown = record {

@@ -6,3 +6,4 @@ pub mod Records
 pub mod Loose
 pub mod Starred
 pub mod Instances
+pub mod AxesShut

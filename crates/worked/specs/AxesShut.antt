@@ -1,0 +1,135 @@
+-- Demand 2 of the axes, over any call: ours meets it, and document 01's wrong programs do not, with a starred case as witness.
+--   Call                 any axis call: what it answers, and what the room holds at the end
+--   DemandAxis call      on a tree's signature the call answers and leaves XPath's node set
+--   ours-axis            whatever keeps our promise meets it
+--   shut-out-refusing    refusing everything
+--   shut-out-fixed       one fixed answer
+--   shut-out-idle        a call that writes nothing
+use Prim.Native.Nat.{ℕ, _≤_, _<_}
+use mathlib.Core.Path.{_≡_, refl, ap, _∙_, sym, subst}
+use mathlib.Core.Logic.{_⊎_, inl, inr, ⊎-elim}
+use mathlib.Core.List.{List, [], _∷_, _++_, map, List·Memᴰ·not-nil}
+use native.Mathlib.Omega.{arith}
+use lib.ListN.{length, getD, drop}
+use Rattle.turns.specs.Turn.{run}
+use Rattle.trees.specs.Tree.{Tree, whole}
+use Rattle.trees.specs.Nodes.{Node, here, under, beside}
+use Rattle.trees.specs.Ranks.{pre}
+use Rattle.trees.specs.Signature.{cell}
+use Rattle.trees.specs.Order.{lt-or-ge}
+use Rattle.checking.specs.declared.Kind.{Kind}
+use Rattle.checking.specs.declared.Refusal.{Refusal}
+use Rattle.checking.specs.declared.Written.{Written}
+use Rattle.checking.specs.Rule.{stepOf, closeOf, accepted, nameless, secondRoot, inRange}
+use Rattle.checking.specs.Turn.{turnWithin, lengthFault}
+use Rattle.checking.specs.Stops.{Answered, worked, refusedAs, answered}
+use Rattle.checked.specs.Yields.{Words, Yields}
+use Rattle.checked.specs.Menus.{ten}
+use Rattle.xpath.specs.Select.{upTo, some, rises, within}
+use Rattle.xpath.specs.Axes.{met, parentOf, ancestorOrSelf, wholeBefore, siblingBefore, onAxis, passes, chosen, pth, kept}
+use Rattle.xpath.specs.OnNodes.{InOrder, Lists, InUnion}
+use Rattle.xpath.specs.NodeLists.{lists-unique}
+use Rattle.axes.specs.Checked.{afterCheck}
+use Rattle.axes.specs.Axis.{argumentsFine, roomFor, axisWithin, AxisPromise}
+use Rattle.axes.proofs.Xpath.{Answers, axis-is-xpath}
+use Rattle.worked.specs.Instances.{tenTree, ten-yields, ten-words}
+
+-- what a call answers, and what the room holds at the end
+pub record Outcome : Type 0 where
+  pub answer : Written
+  pub room : List ℕ
+
+-- signature, contexts, axis, name, position, room
+abbrev pub Call : Type 0
+Call = List ℕ → List ℕ → ℕ → ℕ → ℕ → List ℕ → Outcome
+
+-- demand 2 for the axes: the answer is XPath's node set
+abbrev pub DemandAxis : Call → Type 0
+DemandAxis call =
+    (s : List ℕ) (w : Words s) (y : Yields Kind.Data s) (xs : List (Node (whole (y .tree)))) → InOrder xs
+    → (axis name p : ℕ) → axis ≤ 10 → (room : List ℕ)
+    → (l : List (Node (whole (y .tree)))) × Lists (InUnion axis name p xs) l
+    × Answers s w y room (call s (map pre xs) axis name p room .answer) (call s (map pre xs) axis name p room .room) l
+
+pub ours-axis : (call : Call)
+    → ((s contexts : List ℕ) (axis name p : ℕ) (room : List ℕ) → AxisPromise s contexts axis name p room (call s contexts axis name p room .answer) (call s contexts axis name p room .room))
+    → DemandAxis call
+ours-axis call h s w y xs o axis name p small room = axis-is-xpath s w y xs o axis name p small room _ _ (h s (map pre xs) axis name p room)
+
+-- ---- two starred cases
+
+-- the elements 2 and 7 of Ten
+abbrev two : Node (whole tenTree)
+two = under here
+
+abbrev seven : Node (whole tenTree)
+seven = under (beside here)
+
+one-order : (x : Node (whole tenTree)) → InOrder (x ∷ [])
+one-order x = ((λ y m. absurd (List·Memᴰ·not-nil m)), tt)
+
+child-promise : AxisPromise ten (map pre (two ∷ [])) 1 0 0 (99 ∷ 99 ∷ []) (Written.Length 2) (3 ∷ 6 ∷ [])
+unfolding pre run turnWithin lengthFault inRange stepOf closeOf nameless secondRoot accepted cell
+    upTo some rises within met parentOf ancestorOrSelf wholeBefore siblingBefore onAxis passes chosen pth kept afterCheck argumentsFine roomFor axisWithin
+child-promise = record { said = refl; left = refl }
+
+following-promise : AxisPromise ten (map pre (seven ∷ [])) 7 0 0 [] (Written.Length 0) []
+unfolding pre run turnWithin lengthFault inRange stepOf closeOf nameless secondRoot accepted cell
+    upTo some rises within met parentOf ancestorOrSelf wholeBefore siblingBefore onAxis passes chosen pth kept afterCheck argumentsFine roomFor axisWithin
+following-promise = record { said = refl; left = refl }
+
+-- the length and the ranks of the node set that a kept promise tells
+told-length : (room after : List ℕ) (k : ℕ) (l : List (Node (whole tenTree))) → Answers ten ten-words ten-yields room (Written.Length k) after l → length l ≡ k
+told-length room after k l a =
+    ⊎-elim (λ (s : length room < length l). absurd (never (a .short s .0))) (λ (g : length l ≤ length room). sym (ap (λ (t : Answered). t .length) (a .enough g .0)))
+    (lt-or-ge (length room) (length l))
+  where
+    never : answered (Written.Length k) ≡ refusedAs 10 0 → ⊥
+    never q = let z : _≡_ {A = ℕ} 0 1 = ap (λ (t : Answered). t .refused) q in omega arith
+
+-- what a call that meets the demand says where our promise tells k elements that fit
+module _ (call : Call) (d : DemandAxis call) (x : Node (whole tenTree)) (axis : ℕ) (small : axis ≤ 10) (room after : List ℕ) (k : ℕ)
+    (p : AxisPromise ten (map pre (x ∷ [])) axis 0 0 room (Written.Length k) after) (fits : k ≤ length room) where
+  abbrev got : Outcome
+  got = call ten (map pre (x ∷ [])) axis 0 0 room
+
+  forced : (answered (got .answer) ≡ worked k) × (got .room ≡ after)
+  forced =
+      let u = axis-is-xpath ten ten-words ten-yields (x ∷ []) (one-order x) axis 0 0 small room (Written.Length k) after p in
+      let v = d ten ten-words ten-yields (x ∷ []) (one-order x) axis 0 0 small room in
+      let n = told-length room after k (u .0) (u .2) in
+      let e = lists-unique _ (v .0) (u .0) (v .1) (u .1) in
+      let m : length (v .0) ≡ k = ap length e ∙ n in
+      let a = v .2 .enough (omega arith) in
+      let b = u .2 .enough (omega arith) in
+      (a .0 ∙ ap worked m, a .1 ∙ ap (λ (l : List (Node (whole tenTree))). map pre l ++ drop (length l) room) e ∙ sym (b .1))
+
+-- ---- the wrong programs
+
+-- refusing everything
+abbrev pub refusing : (List ℕ → Refusal) → Call
+refusing why s contexts axis name p room = record { answer = Written.Refused (why s); room = room }
+
+-- one fixed answer
+abbrev pub fixed : Outcome → Call
+fixed x s contexts axis name p room = x
+
+-- a call that writes nothing, whatever it says
+abbrev pub idle : (List ℕ → List ℕ → ℕ → ℕ → ℕ → List ℕ → Written) → Call
+idle say s contexts axis name p room = record { answer = say s contexts axis name p room; room = room }
+
+pub shut-out-refusing : (why : List ℕ → Refusal) → DemandAxis (refusing why) → ⊥
+shut-out-refusing why d =
+    let f = forced (refusing why) d seven 7 (omega arith) [] [] 0 following-promise (omega arith) in
+    let z : _≡_ {A = ℕ} 1 0 = ap (λ (t : Answered). t .refused) (f .0) in omega arith
+
+pub shut-out-fixed : (x : Outcome) → DemandAxis (fixed x) → ⊥
+shut-out-fixed x d =
+    let f = forced (fixed x) d seven 7 (omega arith) [] [] 0 following-promise (omega arith) in
+    let g = forced (fixed x) d two 1 (omega arith) (99 ∷ 99 ∷ []) (3 ∷ 6 ∷ []) 2 child-promise (omega arith) in
+    let z : _≡_ {A = ℕ} 0 2 = ap (λ (t : Answered). t .length) (sym (f .0) ∙ g .0) in omega arith
+
+pub shut-out-idle : (say : List ℕ → List ℕ → ℕ → ℕ → ℕ → List ℕ → Written) → DemandAxis (idle say) → ⊥
+shut-out-idle say d =
+    let g = forced (idle say) d two 1 (omega arith) (99 ∷ 99 ∷ []) (3 ∷ 6 ∷ []) 2 child-promise (omega arith) in
+    let z : _≡_ {A = ℕ} 99 3 = ap (λ (r : List ℕ). getD r 0 0) (g .1) in omega arith
