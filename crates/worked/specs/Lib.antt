@@ -4,6 +4,7 @@ pub mod Check
 pub mod Axes
 pub mod Records
 pub mod Loose
+pub mod Ordered
 pub mod Starred
 pub mod Instances
 pub mod AxesShut

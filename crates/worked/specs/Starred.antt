@@ -1,6 +1,6 @@
 -- Document 01's starred cases: one computed statement over one list.
 use mathlib.Core.Path.{_≡_, refl}
-use mathlib.Core.List.{List, [], _∷_, _++_, map}
+use mathlib.Core.List.{List, [], _∷_, _++_, map, flatMap}
 use Prim.Native.Nat.{ℕ}
 use Rattle.turns.specs.Turn.{run}
 use Rattle.checking.specs.Rule.{stepOf, closeOf, accepted, nameless, secondRoot, inRange}
@@ -29,12 +29,17 @@ use Rattle.loose.specs.Preparing.{passes as twigPasses}
 use Rattle.loose.specs.PrepTurn.{cleared, startFault}
 use Rattle.loose.specs.Walking.{image, place, imageFits, phaseFits, endOf, badEnd, back, found, walkOn}
 use Rattle.loose.specs.Walking.{inRange as walkRange, stepOf as walkStep}
+use Rattle.ordering.specs.Twig.{passOf}
+use Rattle.ordering.specs.Next.{ranks, tuples, placedTest, laterTest, answerTest, smallerTest, firstOf, nextAnswer}
+use Rattle.ordered.specs.Promise.{allUpTo, tupleFits, orderedOf}
+use Rattle.ordered.specs.Promise.{givenOf as orderedGiven}
+use Rattle.worked.specs.Ordered as Ordered
 use Rattle.worked.specs.Loose as Loose
 use Rattle.worked.specs.Loose.{walked, counted}
 
 -- every starred case
 abbrev pub cases : List Case
-cases = Check.cases ++ Axes.cases ++ Records.cases ++ Loose.cases
+cases = Check.cases ++ Axes.cases ++ Records.cases ++ Loose.cases ++ Ordered.cases
 
 pub starred : map (λ (c : Case). c .got) cases ≡ map (λ (c : Case). c .wanted) cases
 unfolding run turnWithin lengthFault inRange stepOf closeOf nameless secondRoot accepted cell
@@ -43,4 +48,5 @@ unfolding run turnWithin lengthFault inRange stepOf closeOf nameless secondRoot 
     tagBytes rootClosed namelessAt misnested tagFault tagNext treeEnd tagsFrom rowFrom backLeft
     every hasBit mask put givenOf ready begun childrenIn stands canOf badParent written joined stepTable prepStep twigPasses cleared startFault
     image place imageFits phaseFits endOf badEnd back found walkOn walkRange walkStep walked counted
+    passOf ranks tuples placedTest laterTest answerTest smallerTest firstOf nextAnswer flatMap allUpTo tupleFits orderedOf orderedGiven
 starred = refl
