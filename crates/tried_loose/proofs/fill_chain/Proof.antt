@@ -1,0 +1,58 @@
+use lib.ListN.{length}
+use mathlib.Core.Path.{_≡_, refl, sym, ap, subst, _∙_}
+use Prim.Native.Nat.{ℕ, _+_, _*_, _-_, _≤_, _<_}
+use native.Mathlib.Omega.{arith}
+use borrow.Author.Needs.{needs}
+use Rattle.tried_loose.proofs.fill_chain.Statement.{statement}
+use Rattle.tried_loose.proofs.fill_chain.Tie as tie
+use Rattle.tried_loose.proofs.fill_chain.Reads as reads
+use Rattle.tried_loose.proofs.fill_chain.Lts as lts
+use Rattle.tried_loose.proofs.put_link.Reads as put-link-reads
+
+abbrev Inv-loop : tie.InvT-loop
+Inv-loop sig₀ n i₀ sig i = (i ≤ n) × (length sig ≡ length sig₀)
+
+abbrev μ-loop : tie.MeasureT-loop
+μ-loop sig₀ n i₀ sig i = n - i
+
+-- src/main.rt:169:5
+loop-holds : tie.Need-loop-holds Inv-loop μ-loop
+loop-holds c = search needs
+
+-- src/main.rt:170:9
+add-i : tie.Need-add-i Inv-loop μ-loop
+add-i c = search needs
+
+-- src/main.rt:171:9
+put-link-requires : tie.Need-put-link-requires Inv-loop μ-loop
+put-link-requires c κs = search needs
+
+-- src/main.rt:169:5
+loop-less : tie.Need-loop-less Inv-loop μ-loop
+loop-less c = search needs
+
+-- src/main.rt:169:5
+loop-again : tie.Need-loop-again Inv-loop μ-loop
+loop-again c = search needs
+
+-- src/main.rt:167:1
+same-length : tie.Need-same-length Inv-loop μ-loop
+same-length c = search needs
+
+-- src/main.rt:167:1
+returns : tie.Need-returns Inv-loop μ-loop
+returns c = search needs
+
+pub fill-chain-spec : {M : Type 1} → statement M
+fill-chain-spec =
+    tie.close
+    (tie.spec
+    Inv-loop
+    μ-loop
+    loop-holds
+    add-i
+    put-link-requires
+    loop-less
+    loop-again
+    same-length
+    returns)
