@@ -4,7 +4,7 @@
 int random_size(void)
 {
     u64 r = below_number(1000);
-    if (r < 2)
+    if (r < 4)
         return (int)between(MOST_DATA - 1, MOST_DATA + 1);
     if (r < 40)
         return (int)between(30, 200);
@@ -61,6 +61,8 @@ void damage_numbers(List *list)
         list->len -= list->len < 4 ? list->len : below_number(4);
     if (one_in(30))
         list->len = 0;
+    if (one_in(60))
+        list->len = 4 * (MOST_DATA + 1);
 }
 
 static void put_mark(List *list, size_t at)

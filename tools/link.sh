@@ -1,5 +1,5 @@
 # Building and starting C programs that link libkiosk.a; other scripts source this file from the repository's root.
-#   archive                 has rt write target/staticlib/libkiosk.a
+#   archive                 has rt write target/staticlib/libkiosk.a, once for all scripts that one of them starts
 #   link OUT FILE.c..       builds the program OUT from C files and the archive
 #   launch OUT ARG..        starts it
 # On x86-64 with a C compiler that compiler is used. Elsewhere, or with KIT=1, the toolchain's own: its clang has no headers, so
@@ -7,6 +7,9 @@
 
 archive() {
   local log
+  if [ "${ARCHIVE:-}" = ready ]; then
+    return
+  fi
   log=$(mktemp)
   if ! rt staticlib kiosk >"$log" 2>&1; then
     tail -n 20 "$log" >&2
@@ -14,6 +17,7 @@ archive() {
     return 1
   fi
   rm -f "$log"
+  export ARCHIVE=ready
 }
 
 native() {
