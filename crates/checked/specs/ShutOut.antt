@@ -1,7 +1,7 @@
 -- Demands 2 and 3 of the check, as predicates over any check, any turns and any call: ours meets them, and document 01's wrong programs do not.
 --   DemandTwo k check        the check accepts exactly if a tree yields the list
 --   TurnsTwo k call          so do turns, however they are cut
---   DemandThree k s call     each turn is what document 01 says of a turn of the written rule
+--   DemandThree k call       each turn is what document 01 says of a turn of the written rule
 --   ours-two, ours-turns, ours-three   whatever keeps our promises meets them
 --   shut-out-…               refusing everything, accepting everything, a turn that does nothing, all the work in the first turn,
 --                            an invented step count
@@ -31,7 +31,7 @@ use Rattle.checking.specs.Turn.{TurnPromise, turnOf, turnWithin, lengthFault}
 use Rattle.checking.specs.Whole.{WholePromise}
 use Rattle.checking.proofs.Cases.{fresh-ranges}
 use Rattle.checked.specs.Menus.{single, twoRoots}
-use Rattle.checked.specs.Yields.{Words, Yields, Exactly, Turns, entries}
+use Rattle.checked.specs.Yields.{Words, Yields, Exactly, Ended, Turns, entries}
 use Rattle.checked.specs.Apart.{stopOf, turnedOf, handed-turned}
 use Rattle.checked.specs.Chained.{Fits, promise-is}
 use Rattle.checked.specs.Wholly.{handed, handed-is, accepted-exactly, whole-exactly, never-refused}
@@ -46,15 +46,16 @@ DemandTwo k check = (s : List ℕ) → Words s → Exactly k s (check s ≡ Verd
 abbrev pub Called : (ℕ → CheckState → CheckTurn) → ℕ → ℕ → CheckTurn → Type 0
 Called call B K r = Chain CheckState CheckTurn (λ b st t. t ≡ call b st) (λ t. t .state) (λ t. t .steps) fresh B K r
 
--- demand 2 of turns: with 2×n steps to spend in all, the end is reported exactly if a tree yields the list
+-- demand 2 of turns: the end is reported only if a tree yields the list, and with 2×n steps to spend in all it is if one does
 abbrev pub TurnsTwo : Kind → (List ℕ → ℕ → CheckState → CheckTurn) → Type 0
-TurnsTwo k call =
-    (s : List ℕ) → Words s → (B K : ℕ) (r : CheckTurn) → 2 * entries s ≤ B → Called (call s) B K r → Exactly k s (r .stop ≡ Stop.End)
+TurnsTwo k call = (s : List ℕ) → Words s → (B K : ℕ) (r : CheckTurn) → Called (call s) B K r → Ended k s B (r .stop ≡ Stop.End)
 
--- demand 3: each turn is a turn of the written rule
-abbrev pub DemandThree : (k : Kind) (s : List ℕ) → (ℕ → CheckState → CheckTurn) → Type 0
-DemandThree k s call =
-    Faithful CheckState (accepted (entries s)) (stepOf (anyName k) (entries s) (entriesOf width s)) (Ranges (entries s)) (λ b st. turnedOf (call b st))
+-- demand 3: on every list whose length is not refused, each turn is a turn of the written rule
+abbrev pub DemandThree : Kind → (List ℕ → ℕ → CheckState → CheckTurn) → Type 0
+DemandThree k call =
+    (s : List ℕ) → Fits k s
+    → Faithful CheckState (accepted (entries s)) (stepOf (anyName k) (entries s) (entriesOf width s)) (Ranges (entries s))
+    (λ b st. turnedOf (call s b st))
 
 -- ---- ours meets them
 
@@ -69,13 +70,13 @@ promised k s call p (more {st = st} {b = b} e c) = more (subst (TurnPromise k s 
 
 pub ours-turns : (k : Kind) (call : List ℕ → ℕ → CheckState → CheckTurn)
     → ((s : List ℕ) (b : ℕ) (st : CheckState) → TurnPromise k s b st (call s b st)) → TurnsTwo k call
-ours-turns k call p s w B K r l c = accepted-exactly k s w l (promised k s (call s) (p s) c)
+ours-turns k call p s w B K r c = accepted-exactly k s w (promised k s (call s) (p s) c)
 
-pub ours-three : (k : Kind) (s : List ℕ) → Fits k s → (call : ℕ → CheckState → CheckTurn)
-    → ((b : ℕ) (st : CheckState) → TurnPromise k s b st (call b st)) → DemandThree k s call
-ours-three k s f call p =
-    ours-faithful CheckState _ _ (Ranges (entries s)) (λ b st. turnedOf (call b st))
-    (λ b st g. handed-turned (call b st) _ (promise-is k s f b st (call b st) g (p b st)))
+pub ours-three : (k : Kind) (call : List ℕ → ℕ → CheckState → CheckTurn)
+    → ((s : List ℕ) (b : ℕ) (st : CheckState) → TurnPromise k s b st (call s b st)) → DemandThree k call
+ours-three k call p s f =
+    ours-faithful CheckState _ _ (Ranges (entries s)) (λ b st. turnedOf (call s b st))
+    (λ b st g. handed-turned (call s b st) _ (promise-is k s f b st (call s b st) g (p s b st)))
 
 -- ---- the starred cases that are the witnesses
 
@@ -101,6 +102,11 @@ single-words = small-words single refl
 two-words : Words twoRoots
 unfolding small
 two-words = small-words twoRoots refl
+
+-- its length is not refused
+single-fits : Fits Kind.Data single
+unfolding lengthFault
+single-fits = refl
 
 pub single-yields : Yields Kind.Data single
 single-yields = record {
@@ -147,27 +153,36 @@ shut-out-refusing x d =
 pub shut-out-accepting : DemandTwo Kind.Data (λ s. Verdict.Accepted) → ⊥
 shut-out-accepting d = two-none (d twoRoots two-words .sound refl)
 
+-- turns that refuse everything, each time as they like
+pub shut-out-turns-refusing : (call : List ℕ → ℕ → CheckState → CheckTurn) (x : List ℕ → ℕ → CheckState → Refusal)
+    → ((s : List ℕ) (b : ℕ) (st : CheckState) → call s b st .stop ≡ Stop.Refused (x s b st)) → TurnsTwo Kind.Data call → ⊥
+shut-out-turns-refusing call x refuses d =
+    let e = d single single-words 2 _ (call single 2 fresh) (one refl) .complete (omega arith) single-yields in
+    let q = sym (refuses single 2 fresh) ∙ e in let z : _≡_ {A = ℕ} 0 1 = cc in omega arith
+
 -- turns with one fixed stop reason, whatever else they hand back
 pub shut-out-fixed : (call : List ℕ → ℕ → CheckState → CheckTurn) (x : Stop) → ((s : List ℕ) (b : ℕ) (st : CheckState) → call s b st .stop ≡ x)
     → TurnsTwo Kind.Data call → ⊥
 shut-out-fixed call x fixed d =
-    let e = d single single-words 2 _ (call single 2 fresh) (omega arith) (one refl) .complete single-yields in
-    two-none (d twoRoots two-words 4 _ (call twoRoots 4 fresh) (omega arith) (one refl) .sound (fixed twoRoots 4 fresh ∙ sym (fixed single 2 fresh) ∙ e))
+    let e = d single single-words 2 _ (call single 2 fresh) (one refl) .complete (omega arith) single-yields in
+    two-none (d twoRoots two-words 4 _ (call twoRoots 4 fresh) (one refl) .sound (fixed twoRoots 4 fresh ∙ sym (fixed single 2 fresh) ∙ e))
 
 -- ---- shut out by demand 3
 
--- a turn that does nothing: it leaves the state as it is, whatever it says
-pub shut-out-idle : (call : ℕ → CheckState → CheckTurn) → ((b : ℕ) (st : CheckState) → call b st .state ≡ st) → DemandThree Kind.Data single call → ⊥
+-- a turn that does nothing: one paid step leaves the fresh state as it is, whatever the turn says
+pub shut-out-idle : (call : List ℕ → ℕ → CheckState → CheckTurn) → call single 1 fresh .state ≡ fresh → DemandThree Kind.Data call → ⊥
 shut-out-idle call idle d =
-    shut-out-state CheckState _ _ (Ranges (entries single)) (λ b st. turnedOf (call b st)) d 1 fresh (fresh-ranges 1)
-    (λ e. let q : _≡_ {A = ℕ} 1 2 = ap (λ (t : CheckState). t .next .0) (sym (idle 1 fresh) ∙ e ∙ ap (λ (t : Turned CheckState). t .state) single-one) in omega arith)
+    shut-out-state CheckState _ _ (Ranges (entries single)) (λ b st. turnedOf (call single b st)) (d single single-fits) 1 fresh (fresh-ranges 1)
+    (λ e. let q : _≡_ {A = ℕ} 1 2 = ap (λ (t : CheckState). t .next .0) (sym idle ∙ e ∙ ap (λ (t : Turned CheckState). t .state) single-one) in omega arith)
 
--- all the work in the first turn, whatever it may spend and whatever it says
-pub shut-out-at-once : (call : ℕ → CheckState → CheckTurn) → ((b : ℕ) → call b fresh .state ≡ at 2 0 1) → DemandThree Kind.Data single call → ⊥
+-- all the work in the first turn, which may spend one step, whatever it says
+pub shut-out-at-once : (call : List ℕ → ℕ → CheckState → CheckTurn) → call single 1 fresh .state ≡ at 2 0 1 → DemandThree Kind.Data call → ⊥
 shut-out-at-once call once d =
-    shut-out-state CheckState _ _ (Ranges (entries single)) (λ b st. turnedOf (call b st)) d 1 fresh (fresh-ranges 1)
-    (λ e. let q : _≡_ {A = ℕ} 0 1 = ap (λ (t : CheckState). t .top .0) (sym (once 1) ∙ e ∙ ap (λ (t : Turned CheckState). t .state) single-one) in omega arith)
+    shut-out-state CheckState _ _ (Ranges (entries single)) (λ b st. turnedOf (call single b st)) (d single single-fits) 1 fresh (fresh-ranges 1)
+    (λ e. let q : _≡_ {A = ℕ} 0 1 = ap (λ (t : CheckState). t .top .0) (sym once ∙ e ∙ ap (λ (t : Turned CheckState). t .state) single-one) in omega arith)
 
 -- an invented step count: another one than that of the turn of the rule, with any budget
-pub shut-out-invented : (call : ℕ → CheckState → CheckTurn) (b : ℕ) → (call b fresh .steps ≡ onSingle b .steps → ⊥) → DemandThree Kind.Data single call → ⊥
-shut-out-invented call b n d = shut-out-count CheckState _ _ (Ranges (entries single)) (λ b st. turnedOf (call b st)) d b fresh (fresh-ranges 1) n
+pub shut-out-invented : (call : List ℕ → ℕ → CheckState → CheckTurn) (b : ℕ) → (call single b fresh .steps ≡ onSingle b .steps → ⊥)
+    → DemandThree Kind.Data call → ⊥
+shut-out-invented call b n d =
+    shut-out-count CheckState _ _ (Ranges (entries single)) (λ b st. turnedOf (call single b st)) (d single single-fits) b fresh (fresh-ranges 1) n

@@ -24,7 +24,7 @@ use Rattle.checking.specs.Rule.{fresh}
 use Rattle.checking.specs.Stops.{Told, told, haltTold, verdictTold}
 use Rattle.checking.specs.Turn.{Handed, TurnPromise, turnOf}
 use Rattle.checking.specs.Whole.{wholeOf, WholePromise}
-use Rattle.checked.specs.Yields.{Words, Yields, Exactly, Turns, entries}
+use Rattle.checked.specs.Yields.{Words, Yields, Exactly, Ended, Turns, entries}
 use Rattle.checked.specs.Apart.{stopOf, halt-told, verdict-apart, told-stop}
 use Rattle.checked.specs.Accepted.{Tree-of, tree-of, Sound, chain-sound, accepted-sound, Came, chain-complete}
 use Rattle.checked.specs.Walked.{Fine}
@@ -39,13 +39,13 @@ handed-is t = record { state = refl; steps = refl; stop = told-stop (t .halt) }
 module _ (k : Kind) (s : List ℕ) where
   -- ---- chains of public turns
 
-  -- demand 2: turns that together may spend 2×n steps report the end exactly if a tree yields the list
-  pub accepted-exactly : {B K : ℕ} {r : CheckTurn} → Words s → 2 * entries s ≤ B → Turns k s fresh B K r → Exactly k s (r .stop ≡ Stop.End)
-  accepted-exactly {B} {K} {r} w b c = record { sound = λ h. accepted-sound k s w c h .0; complete = λ y. go y (chain-complete k s y c) }
+  -- demand 2: turns report the end only if a tree yields the list, and where they may spend 2×n steps in all they do if one does
+  pub accepted-exactly : {B K : ℕ} {r : CheckTurn} → Words s → Turns k s fresh B K r → Ended k s B (r .stop ≡ Stop.End)
+  accepted-exactly {B} {K} {r} w c = record { sound = λ h. accepted-sound k s w c h .0; complete = λ b y. go b y (chain-complete k s y c) }
     where
-      go : (y : Yields k s) → Came k s y B K r → r .stop ≡ Stop.End
-      go y (inl q) = q .stop
-      go y (inr q) = absurd (omega (arith, q .short))
+      go : 2 * entries s ≤ B → (y : Yields k s) → Came k s y B K r → r .stop ≡ Stop.End
+      go b y (inl q) = q .stop
+      go b y (inr q) = absurd (omega (arith, q .short, b))
 
   -- demand 3: where the end is reported, the steps add up to 2×n
   pub check-two-n : {B K : ℕ} {r : CheckTurn} → Turns k s fresh B K r → r .stop ≡ Stop.End → K ≡ 2 * entries s
@@ -94,7 +94,7 @@ module _ (k : Kind) (s : List ℕ) where
       ended : Yields k s → turnOf k s (2 * most k + 1) fresh .halt ≡ Halt.end
       ended y =
           halt-told (turnOf k s (2 * most k + 1) fresh .halt) Halt.end
-          (sym (told-stop (turnOf k s (2 * most k + 1) fresh .halt)) ∙ ap told (accepted-exactly w (fits y) whole-turn .complete y))
+          (sym (told-stop (turnOf k s (2 * most k + 1) fresh .halt)) ∙ ap told (accepted-exactly w whole-turn .complete (fits y) y))
 
 -- the tree is unique
 pub tree-unique : (k : Kind) (s : List ℕ) (a b : Yields k s) → a .tree ≡ b .tree

@@ -2,9 +2,10 @@
 --   Words s          a list of sixteen-bit numbers
 --   Yields k s       a tree of kind k yields the list s as its signature
 --   Exactly k s P    P exactly if a tree of kind k yields s
+--   Ended k s B P    the same of turns that may spend B steps in all: P says that a tree yields s, and 2×n steps are enough for P
 --   Turns k s st B K r   public turns of the check of s from st: budgets B and steps K in all, the last one answered r
 --   entries s        how many entries the list has
-use Prim.Native.Nat.{ℕ, _/_, _<_}
+use Prim.Native.Nat.{ℕ, _/_, _*_, _<_, _≤_}
 use mathlib.Core.Path.{_≡_}
 use mathlib.Core.List.{List}
 use lib.ListN.{length, getD}
@@ -35,6 +36,11 @@ pub record Exactly (k : Kind) (s : List ℕ) (Said : Type 0) : Type 0 where
 -- n, the number of entries
 abbrev pub entries : List ℕ → ℕ
 entries s = length s / width
+
+-- turns that may spend B steps in all say it only if a tree yields the list, and with 2×n steps to spend they do if one does
+pub record Ended (k : Kind) (s : List ℕ) (B : ℕ) (Said : Type 0) : Type 0 where
+  pub sound : Said → Yields k s
+  pub complete : 2 * entries s ≤ B → Yields k s → Said
 
 -- any chain of public turns, with any budgets, each given the state that the one before handed back
 abbrev pub Turns : Kind → List ℕ → CheckState → ℕ → ℕ → CheckTurn → Type 0

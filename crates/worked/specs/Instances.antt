@@ -16,7 +16,7 @@ use Rattle.checking.specs.declared.Refusal.{Refusal}
 use Rattle.checking.specs.declared.Stop.{Stop}
 use Rattle.checking.specs.declared.Verdict.{Verdict}
 use Rattle.checking.specs.Rule.{fresh, Ranges, stepOf, closeOf, accepted, nameless, secondRoot, inRange}
-use Rattle.checking.specs.Turn.{turnOf, turnWithin, lengthFault}
+use Rattle.checking.specs.Turn.{TurnPromise, turnOf, turnWithin, lengthFault}
 use Rattle.checking.specs.Whole.{WholePromise}
 use Rattle.checking.proofs.Cases.{fresh-ranges}
 use Rattle.checked.specs.Yields.{Words, Yields, Turns, entries}
@@ -73,7 +73,7 @@ chain : Turns Kind.Data ten fresh (3 + 8190) (first .steps + last .steps) last
 chain = more (handed-is (turnOf Kind.Data ten 3 fresh)) (one (handed-is (turnOf Kind.Data ten 8190 (turnOf Kind.Data ten 3 fresh .state))))
 
 pub ten-accepted : last .stop ≡ Stop.End
-ten-accepted = accepted-exactly Kind.Data ten ten-words (omega arith) chain .complete ten-yields
+ten-accepted = accepted-exactly Kind.Data ten ten-words chain .complete (omega arith) ten-yields
 
 pub ten-twenty : first .steps + last .steps ≡ 20
 ten-twenty = check-two-n Kind.Data ten chain ten-accepted
@@ -107,11 +107,13 @@ ten-steps = step-as-written Kind.Data ten 3 fresh first (handed-is (turnOf Kind.
 pub ten-range : Ranges 10 (first .state)
 ten-range = handed-back-in-range Kind.Data ten 3 fresh first (handed-is (turnOf Kind.Data ten 3 fresh)) (fresh-ranges 10)
 
-pub ten-count : first .steps ≡ first .steps
-ten-count = count-unique Kind.Data ten ten-steps ten-steps
+-- no other count than 3 leads there
+pub ten-count : {k : ℕ} → Steps CheckState (accepted 10) (stepOf false 10 (entriesOf width ten)) k fresh (first .state) → k ≡ first .steps
+ten-count m = count-unique Kind.Data ten m ten-steps
 
-pub ten-one : first ≡ first
-ten-one = one-result Kind.Data ten 3 fresh first first (handed-is (turnOf Kind.Data ten 3 fresh)) (handed-is (turnOf Kind.Data ten 3 fresh))
+-- whatever keeps the promise of this turn is what ours hands back
+pub ten-one : (r : CheckTurn) → TurnPromise Kind.Data ten 3 fresh r → r ≡ first
+ten-one r p = one-result Kind.Data ten 3 fresh r first p (handed-is (turnOf Kind.Data ten 3 fresh))
 
 -- ---- a fault, on 5,1,3,0; 5,2,3,1
 
@@ -157,8 +159,9 @@ ten-exactly = whole-exactly Kind.Data ten ten-words Verdict.Accepted ten-whole .
 pub ten-unique : ten-exactly .tree ≡ ten-yields .tree
 ten-unique = tree-unique Kind.Data ten ten-exactly ten-yields
 
-pub ten-verdict : Verdict.Accepted ≡ Verdict.Accepted
-ten-verdict = one-verdict Kind.Data ten Verdict.Accepted Verdict.Accepted ten-whole ten-whole
+-- whatever keeps the whole check's promise accepts Ten
+pub ten-verdict : (v : Verdict) → WholePromise Kind.Data ten v → v ≡ Verdict.Accepted
+ten-verdict v p = one-verdict Kind.Data ten v Verdict.Accepted p ten-whole
 
 -- ---- a twig of one node with name 0, which no data tree may have
 
@@ -178,7 +181,7 @@ any-words = small-words anyNode refl
 
 pub any-accepted : handed (turnOf Kind.Twig anyNode 2 fresh) .stop ≡ Stop.End
 any-accepted =
-    accepted-exactly Kind.Twig anyNode any-words (omega arith) (one (handed-is (turnOf Kind.Twig anyNode 2 fresh))) .complete any-yields
+    accepted-exactly Kind.Twig anyNode any-words (one (handed-is (turnOf Kind.Twig anyNode 2 fresh))) .complete (omega arith) any-yields
 
 pub any-refused : handed (turnOf Kind.Data anyNode 2 fresh) .stop ≡ Stop.Refused (record { number = 3; entry = record { 0 = 1 } })
 unfolding turnWithin lengthFault inRange run stepOf closeOf nameless secondRoot accepted cell
