@@ -2,6 +2,7 @@
 --   ten, five        the paper's tree of ten elements, and five elements that are all named 1
 --   single, …        the smaller ones
 --   tarts            the four entries on which only neighbours are compared by a trainee
+--   fork, ones, pair   the twigs a(b,c), 1(1,1,1) and 1(1)
 use Prim.Native.Nat.{ℕ}
 use mathlib.Core.List.{List, [], _∷_}
 
@@ -34,3 +35,15 @@ wrongFf = 5 ∷ 2 ∷ 3 ∷ 0 ∷ 5 ∷ 1 ∷ 2 ∷ 1 ∷ []
 -- "Entries 1,4,5,0; 2,2,4,1; 3,1,4,2; 4,3,5,1"
 abbrev pub tarts : List ℕ
 tarts = 1 ∷ 4 ∷ 5 ∷ 0 ∷ 2 ∷ 2 ∷ 4 ∷ 1 ∷ 3 ∷ 1 ∷ 4 ∷ 2 ∷ 4 ∷ 3 ∷ 5 ∷ 1 ∷ []
+
+-- "Twig 8(9,10)", "Twig 7(9,10)" and "twig 2(3,4)"
+abbrev pub fork : ℕ → ℕ → ℕ → List ℕ
+fork a b c = a ∷ 3 ∷ 4 ∷ 0 ∷ b ∷ 1 ∷ 3 ∷ 1 ∷ c ∷ 2 ∷ 4 ∷ 1 ∷ []
+
+-- "Twig 1(1,1,1)"
+abbrev pub ones : List ℕ
+ones = 1 ∷ 4 ∷ 5 ∷ 0 ∷ 1 ∷ 1 ∷ 3 ∷ 1 ∷ 1 ∷ 2 ∷ 4 ∷ 1 ∷ 1 ∷ 3 ∷ 5 ∷ 1 ∷ []
+
+-- "the twig 1(1)"
+abbrev pub pair : List ℕ
+pair = 1 ∷ 2 ∷ 3 ∷ 0 ∷ 1 ∷ 1 ∷ 3 ∷ 1 ∷ []

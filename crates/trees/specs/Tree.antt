@@ -32,6 +32,7 @@ abbrev pub NotZero : Bool → ℕ → Type 0
 NotZero true a = Unit {0}
 NotZero false a = a ≡ 0 → ⊥
 
+-- a name that an element may have, name 0 only where any name may stand
 pub record Allowed (any : Bool) (a : ℕ) : Type 0 where
   pub code : a < 65536
   pub some : NotZero any a

@@ -16,6 +16,7 @@ use Rattle.turns.specs.Counts.{moves-append, steps-append, moves-split, 
 -- ---- chains, over whatever a public turn promises
 
 module _ (S R : Type 0) (Promise : ℕ → S → R → Type 0) (state : R → S) (steps : R → ℕ) where
+  -- turns from a state, each given the state that the one before handed back: their budgets and their steps in all, and what the last one handed back
   pub data Chain : S → ℕ → ℕ → R → Type 0 where
     one : {st : S} {b : ℕ} {r : R} → Promise b st r → Chain st b (steps r) r
     more : {st : S} {b B K : ℕ} {r last : R} → Promise b st r → Chain (state r) B K last → Chain st (b + B) (steps r + K) last

@@ -12,6 +12,7 @@ use Rattle.turns.specs.Laws.{turn-outcome, outcome-turn}
 
 -- Within says from which states turns are asked for
 module _ (S : Type 0) (finished : S → Bool) (step : S → Next S) (Within : S → Type 0) where
+  -- each turn that the call makes from such a state is what document 01 says of a turn
   abbrev pub Faithful : (ℕ → S → Turned S) → Type 0
   Faithful call = (b : ℕ) (st : S) → Within st → Outcome S finished step b st (call b st)
 

@@ -1,6 +1,6 @@
--- The laws of a turn. What stops it is the first of finished, budget, refusal and answer, and nothing else; cut anywhere, it is the same turn.
+-- The laws of a turn: what stops it is the first of finished, budget, refusal and answer, and nothing else.
 --   run-…            which case holds under which facts, as a loop meets them
---   turn-outcome     a turn is what document 01 says of it, and nothing else is
+--   turn-outcome     a turn is what document 01 says of it
 --   outcome-turn     and nothing else is
 --   ended-finished, budget-spent   where the end is reported, and where the budget stops it
 --   stops-before-the-fault   a refusal is that of the next step, which the budget would have paid for

@@ -12,7 +12,7 @@ use mathlib.Core.Path.{_≡_}
 use mathlib.Core.Bool.{Bool, true, false}
 use Rattle.turns.specs.Pick.{pick}
 
--- what a step comes to: a state to go on from, an answer, or a refusal with its number and entry
+-- what a step comes to: a state to go on from, an answer, or a refusal with its number and the entry, or the place, that it names
 pub data Next (S : Type 0) : Type 0 where
   moved : S → Next S
   answered : S → Next S
@@ -29,6 +29,7 @@ pub record Turned (S : Type 0) : Type 0 where
   pub steps : ℕ
   pub halt : Halt
 
+-- what a turn does with each of the three
 abbrev pub onNext : {S : Type 0} → Next S → (S → Turned S) → (S → Turned S) → (ℕ → ℕ → Turned S) → Turned S
 onNext (moved to) go found stop = go to
 onNext (answered to) go found stop = found to

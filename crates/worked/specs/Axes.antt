@@ -1,4 +1,4 @@
--- The starred cases of the axes, on Ten: refused or not, the refusal's number, length and entry, and the lent room at the end, whose first number was 99.
+-- The starred cases of the axes, on Ten: refused or not, the refusal's number, length and entry, and the lent room at the end, which held 99s.
 use Prim.Native.Nat.{ℕ}
 use mathlib.Core.List.{List, [], _∷_}
 use Rattle.axes.specs.Axis.{Left, axisAnswer}
