@@ -5,6 +5,50 @@ use checking::Refusal;
 use checking::Stop;
 use libc::STDOUT_FILENO;
 
+// The sample menu: name, post, ff and fa of each element.
+const TEN: [u16; 40] = [
+    1,
+    10,
+    11,
+    0,
+    2,
+    5,
+    7,
+    1,
+    3,
+    3,
+    6,
+    2,
+    4,
+    1,
+    5,
+    3,
+    5,
+    2,
+    6,
+    3,
+    7,
+    4,
+    7,
+    2,
+    6,
+    9,
+    11,
+    1,
+    8,
+    8,
+    11,
+    7,
+    9,
+    6,
+    10,
+    8,
+    10,
+    7,
+    11,
+    8,
+];
+
 fn say(text: &[u8]) {
     io::write_all(STDOUT_FILENO, text);
 }
@@ -67,52 +111,10 @@ fn check(sig: &[u16]) {
 }
 
 fn main() {
-    let ten: [u16; 40] = [
-        1,
-        10,
-        11,
-        0,
-        2,
-        5,
-        7,
-        1,
-        3,
-        3,
-        6,
-        2,
-        4,
-        1,
-        5,
-        3,
-        5,
-        2,
-        6,
-        3,
-        7,
-        4,
-        7,
-        2,
-        6,
-        9,
-        11,
-        1,
-        8,
-        8,
-        11,
-        7,
-        9,
-        6,
-        10,
-        8,
-        10,
-        7,
-        11,
-        8,
-    ];
     say(b"a menu of ten elements:\n");
-    check(&ten);
+    check(&TEN);
     say(b"the same with a wrong pointer at entry 6:\n");
-    let mut bad = ten;
+    let mut bad = TEN;
     bad[23] = 3;
     check(&bad);
 }

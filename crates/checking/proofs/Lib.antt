@@ -1,3 +1,4 @@
 pub mod Cases
 pub mod Inverse
 pub mod Runs
+pub mod Plain

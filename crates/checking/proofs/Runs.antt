@@ -11,16 +11,15 @@ use lib.ListN.{length}
 use lib.Dec.{leb, eqb}
 use native.Mathlib.Omega.{arith}
 use native.Mathlib.Decide.{ℕ-discrete}
-use borrow.Author.Tests.{le-leb, lt-leb, eq-eqb, ne-eqb, eqb-true, eqb-false, leb-true, leb-false}
+use borrow.Author.Tests.{le-leb, lt-leb, eq-eqb, ne-eqb, eqb-true, eqb-false, leb-true}
 use Rattle.turns.specs.Pick.{pick}
-use Rattle.turns.specs.Turn.{Next, moved, answered, refused, Halt, Turned, run, turn, Moves, stay, move, Outcome, ended, spent, faulty}
+use Rattle.turns.specs.Turn.{Halt, Turned, run, Moves, stay, move, Outcome, ended, spent, faulty}
 use Rattle.turns.specs.Turn as Turns
 use Rattle.turns.specs.Laws.{turn-outcome}
 use Rattle.trees.specs.Signature.{Entries, entriesOf, width}
 use Rattle.checking.specs.declared.CheckState.{CheckState}
 use Rattle.checking.specs.Rule.{stepOf, accepted, Ranges, inRange, fresh}
-use Rattle.checking.specs.declared.CheckTurn.{CheckTurn}
-use Rattle.checking.specs.Turn.{Handed, runOf, spentOf, lengthFault, turnWithin, turnOf, refusedAt, TurnPromise}
+use Rattle.checking.specs.Turn.{runOf, spentOf, lengthFault, turnWithin, turnOf, refusedAt}
 use Rattle.checking.specs.Whole.{wholeOf}
 use Rattle.checking.specs.declared.Kind.{Kind}
 use Rattle.checking.specs.declared.Stop.{Stop}
@@ -50,19 +49,6 @@ module _ (any : Bool) (n : ℕ) (e : Entries) where
   stops b t s l (spent m f) =
       let r = moves-ranges (fresh-ranges n) m in
       absurd (omega (arith, moves-grow m, r .last, r .closed))
-
--- ---- what is handed back
-
--- handed back is what an equal turn hands back
-pub handed-as : (r : CheckTurn) (t u : Turned CheckState) → t ≡ u → Handed r u → Handed r t
-handed-as r t u q h = rw q h
-
-module _ (n : ℕ) (st : CheckState) (k : ℕ) where
-  pub spent-end : accepted n st ≡ true → spentOf n st k ≡ record { state = st; steps = k; halt = Halt.end }
-  spent-end h = simp h
-
-  pub spent-budget : accepted n st ≡ false → spentOf n st k ≡ record { state = st; steps = k; halt = Halt.budget }
-  spent-budget h = simp h
 
 -- a run with no budget left
 pub run-spent : (any : Bool) (n : ℕ) (e : Entries) (b k : ℕ) (st : CheckState) → b ≡ 0
@@ -169,10 +155,9 @@ stop-accepted Stop.End h q (inr e) n = let w = rw (e .2) at q in let z : _≡_ {
 stop-accepted Stop.Budget h q (inr e) n = let w = rw (e .2) at q in let z : _≡_ {A = ℕ} 2 3 = ap (λ (t : Told). t .reason) w in absurd (omega arith)
 stop-accepted (Stop.Refused r) h q (inr e) n = absurd (n r refl)
 
--- what a turn with these arguments says is what the whole check says
-pub whole-is : (k : Kind) (s : List ℕ) (b : ℕ) (st : CheckState) (r : CheckTurn) → TurnPromise k s b st r → st ≡ fresh → b ≡ 2 * most k + 1
-    → told (r .stop) ≡ wholeOf k s
-whole-is k s b st r p q e = p .stop ∙ ap (λ (x : CheckState). haltTold (turnOf k s b x .halt)) q ∙ ap (λ (x : ℕ). haltTold (turnOf k s x fresh .halt)) e
+-- the whole check, by a budget that is told in another way
+pub whole-told : (k : Kind) (s : List ℕ) (m : ℕ) → m ≡ most k → haltTold (turnOf k s (2 * m + 1) fresh .halt) ≡ wholeOf k s
+whole-told k s m q = ap (λ (x : ℕ). haltTold (turnOf k s (2 * x + 1) fresh .halt)) q
 
 -- the same run, told in another way whether name 0 is allowed
 pub run-any : (a c : Bool) (n : ℕ) (e : Entries) (b : ℕ) (st : CheckState) → a ≡ c → runOf c n e b st ≡ runOf a n e b st

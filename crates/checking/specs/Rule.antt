@@ -6,7 +6,6 @@
 --   secondRoot i up    an entry after the first with no parent
 --   openOf, closeOf    rule 2, and rules 3 and 4
 --   stepOf any n e st  the whole step
---   nextOf             what the code's answer to a step means
 use Prim.Native.Nat.{ℕ, zero, suc, _+_, _-_, _≤_, _<_}
 use mathlib.Core.Bool.{Bool, true, false, not, _&&_}
 use lib.Dec.{ltb, leb, eqb}
@@ -14,7 +13,6 @@ use Rattle.turns.specs.Pick.{pick}
 use Rattle.turns.specs.Turn.{Next, moved, answered, refused}
 use Rattle.trees.specs.Signature.{Entries}
 use Rattle.checking.specs.declared.CheckState.{CheckState}
-use Rattle.checking.specs.declared.Stepped.{Stepped}
 
 -- a state by its three numbers: next entry, innermost open element, number closed
 abbrev pub at : ℕ → ℕ → ℕ → CheckState
@@ -81,8 +79,3 @@ stepOf any n e st =
     (moved (openOf st))
     (closeOf e st)))))
     (closeOf e st)
-
--- what the code's answer to a step means
-abbrev pub nextOf : Stepped → Next CheckState
-nextOf (Stepped.Moved to) = moved to
-nextOf (Stepped.Refused number entry) = refused number entry

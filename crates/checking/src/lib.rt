@@ -2,12 +2,23 @@
 ghost use mathlib.Core.Path.{_≡_};
 ghost use mathlib.Core.Bool.{Bool};
 ghost use Prim.Native.Nat.{ℕ, _+_, _*_, _-_, _<_, _≤_};
-ghost use lib.ListN.{length, getD};
-ghost use Rattle.trees.specs.Signature.{cell, entriesOf, width};
+ghost use lib.ListN.{getD};
+ghost use Rattle.trees.specs.Signature.{cell, width};
 ghost use Rattle.checking.specs.Kinds.{anyName, most};
-ghost use Rattle.checking.specs.Rule.{Ranges, closeOf, openOf, stepOf, accepted, inRange, fresh, nameless, secondRoot, nextOf};
-ghost use Rattle.checking.specs.Turn.{Handed, runOf, spentOf, refusedAt, lengthFault, TurnPromise};
-ghost use Rattle.checking.specs.Whole.{WholePromise};
+ghost use Rattle.checking.specs.Stops.{told};
+ghost use Rattle.checking.specs.Rule.{at, inRange, fresh};
+ghost use Rattle.checking.specs.Turn.{lengthFault, turnOf, TurnPromise};
+ghost use Rattle.checking.specs.Whole.{wholeOf, WholePromise};
+ghost use Rattle.checking.specs.Plain.{toldAs, Reaches, startFault};
+
+mod steps;
+
+use steps::ENDED;
+use steps::REFUSED;
+use steps::Reached;
+use steps::SPENT;
+use steps::halted;
+use steps::run;
 
 // A rank in the order in which elements open, counted from 1; 0 stands for none.
 pub struct PreRank(pub u16);
@@ -86,12 +97,6 @@ pub enum Written {
     Refused(Refusal),
 }
 
-// What one step comes to.
-enum Stepped {
-    Moved(CheckState),
-    Refused(u16, u16),
-}
-
 impl Kind {
     // Whether name 0 is allowed.
     pub fn any_name(self) -> bool
@@ -112,15 +117,6 @@ impl Kind {
             Kind::Twig => 16,
         }
     }
-}
-
-// Number k of entry i, where an entry has wide numbers.
-fn number(sig: &[u16], wide: usize, i: u16, k: usize) -> u16
-    requires { ⌜ (1 ≤ i) × (k < wide) × (wide * i ≤ length (now sig)) ⌝ }
-    ensures { λ r. ⌜ r ≡ cell wide (now (sig .entry)) i k ⌝ }
-{
-    let at = i as usize;
-    sig[wide * (at - 1) + k]
 }
 
 // The number at a place, or 0 past the end.
@@ -144,113 +140,11 @@ pub fn entry_number(sig: &[u16], i: PreRank, k: u16) -> u16
     number_or_zero(sig, 4 * (rank - 1) + (k as usize))
 }
 
-// Rules 3 and 4: the innermost open element is closed.
-fn close_top(sig: &[u16], n: u16, st: CheckState) -> Stepped
-    requires { ⌜ (length (now sig) ≡ width * n) × (n ≤ 4096) × Ranges n st ⌝ }
-    ensures { λ r. ⌜ nextOf r ≡ closeOf (entriesOf width (now (sig .entry))) st ⌝ }
-{
-    let i = st.next.0;
-    let top = st.top.0;
-    let closed = st.closed.0;
-    if top == 0 {
-        return Stepped::Refused(NOT_OPEN, i);
-    }
-    if closed == i - 1 {
-        return Stepped::Refused(BAD_STATE, 0);
-    }
-    let post = number(sig, 4, top, 1);
-    if post != closed + 1 {
-        return Stepped::Refused(WRONG_POST, top);
-    }
-    let ff = number(sig, 4, top, 2);
-    if ff != i {
-        return Stepped::Refused(WRONG_FF, top);
-    }
-    let up = number(sig, 4, top, 3);
-    if up < top {
-        Stepped::Moved(CheckState {
-            next: PreRank(i),
-            top: PreRank(up),
-            closed: PostRank(closed + 1),
-        })
-    } else {
-        Stepped::Refused(NOT_OPEN, top)
-    }
-}
-
-// Whether entry i has name 0 where that is refused.
-fn is_nameless(sig: &[u16], i: u16, any_name: bool) -> bool
-    requires { ⌜ (1 ≤ i) × (width * i ≤ length (now sig)) ⌝ }
-    ensures { λ r. ⌜ «r» ≡ nameless «any_name» (entriesOf width (now (sig .entry))) i ⌝ }
-{
-    if any_name {
-        return false;
-    }
-    let name = number(sig, 4, i, 0);
-    if name == 0 { true } else { false }
-}
-
-// Whether entry i, whose fa is given, would be a second root.
-fn is_second_root(i: u16, fa: u16) -> bool
-    ensures { λ r. ⌜ «r» ≡ secondRoot i fa ⌝ }
-{
-    if i <= 1 {
-        return false;
-    }
-    if fa == 0 { true } else { false }
-}
-
-// One step of the written rule.
-fn step(sig: &[u16], n: u16, any_name: bool, st: CheckState) -> Stepped
-    requires { ⌜ (length (now sig) ≡ width * n) × (n ≤ 4096) × Ranges n st ⌝ }
-    ensures { λ r. ⌜ nextOf r ≡ stepOf «any_name» n (entriesOf width (now (sig .entry))) st ⌝ }
-{
-    let i = st.next.0;
-    if n < i {
-        return close_top(sig, n, st);
-    }
-    if is_nameless(sig, i, any_name) {
-        return Stepped::Refused(NAMELESS, i);
-    }
-    let fa = number(sig, 4, i, 3);
-    if i <= fa {
-        return Stepped::Refused(NOT_OPEN, i);
-    }
-    if is_second_root(i, fa) {
-        return Stepped::Refused(NOT_OPEN, i);
-    }
-    let top = st.top.0;
-    if fa == top {
-        let closed = st.closed;
-        Stepped::Moved(CheckState {
-            next: PreRank(i + 1),
-            top: PreRank(i),
-            closed,
-        })
-    } else {
-        close_top(sig, n, st)
-    }
-}
-
-// Whether the check has come to its end.
-fn is_accepted(n: u16, st: CheckState) -> bool
-    requires { ⌜ n ≤ 4096 ⌝ }
-    ensures { λ r. ⌜ «r» ≡ accepted n st ⌝ }
-{
-    if st.next.0 != n + 1 {
-        return false;
-    }
-    if st.top.0 == 0 { true } else { false }
-}
-
 // Whether a saved state is within its ranges.
-fn is_in_range(n: u16, st: CheckState) -> bool
+fn is_in_range(n: u16, next: u16, top: u16, closed: u16) -> bool
     requires { ⌜ n ≤ 4096 ⌝ }
-    ensures { λ r. ⌜ «r» ≡ inRange n st ⌝ }
+    ensures { λ r. ⌜ «r» ≡ inRange n (at next top closed) ⌝ }
 {
-    let next = st.next.0;
-    let top = st.top.0;
-    let closed = st.closed.0;
     if next < 1 {
         return false;
     }
@@ -261,75 +155,6 @@ fn is_in_range(n: u16, st: CheckState) -> bool
         return false;
     }
     if closed < next { true } else { false }
-}
-
-// Up to budget steps from a state within its ranges.
-fn run(sig: &[u16], n: u16, any_name: bool, budget: u64, start: CheckState) -> CheckTurn
-    requires { ⌜ (length (now sig) ≡ width * n) × (n ≤ 4096) × Ranges n start ⌝ }
-    ensures { λ r. ⌜ Handed r (runOf «any_name» n (entriesOf width (now (sig .entry))) budget start) ⌝ }
-{
-    let mut st = start;
-    let mut steps: u64 = 0;
-    while steps < budget {
-        if is_accepted(n, st) {
-            return CheckTurn {
-                state: st,
-                steps,
-                stop: Stop::End,
-            };
-        }
-        let got = step(sig, n, any_name, st);
-        match got {
-            Stepped::Moved(to) => {
-                st = to;
-            }
-            Stepped::Refused(number, entry) => {
-                return CheckTurn {
-                    state: st,
-                    steps,
-                    stop: Stop::Refused(Refusal {
-                        number,
-                        entry: PreRank(entry),
-                    }),
-                };
-            }
-        }
-        steps += 1;
-    }
-    stopped(n, st, steps)
-}
-
-// Where the budget is spent: the end, if the last step came to it.
-fn stopped(n: u16, st: CheckState, steps: u64) -> CheckTurn
-    requires { ⌜ n ≤ 4096 ⌝ }
-    ensures { λ r. ⌜ Handed r (spentOf n st steps) ⌝ }
-{
-    if is_accepted(n, st) {
-        return CheckTurn {
-            state: st,
-            steps,
-            stop: Stop::End,
-        };
-    }
-    CheckTurn {
-        state: st,
-        steps,
-        stop: Stop::Budget,
-    }
-}
-
-// A turn that is refused before its first step.
-fn refused(st: CheckState, number: u16) -> CheckTurn
-    ensures { λ r. ⌜ Handed r (refusedAt st number) ⌝ }
-{
-    CheckTurn {
-        state: st,
-        steps: 0,
-        stop: Stop::Refused(Refusal {
-            number,
-            entry: PreRank(0),
-        }),
-    }
 }
 
 // The refusal of a signature of len numbers by its length alone, or 0.
@@ -349,44 +174,100 @@ pub fn length_fault(kind: Kind, len: usize) -> u16
     0
 }
 
+// The number by which a turn is refused before its first step, or 0.
+fn start_fault(kind: Kind, len: usize, next: u16, top: u16, closed: u16) -> u16
+    ensures { λ r. ⌜ r ≡ startFault (most kind) len (at next top closed) ⌝ }
+{
+    let fault = length_fault(kind, len);
+    if fault != 0 {
+        return fault;
+    }
+    let n = (len / 4) as u16;
+    if is_in_range(n, next, top, closed) {
+        0
+    } else {
+        BAD_STATE
+    }
+}
+
+// A turn in plain numbers. Its start costs the same for every size.
+fn reach(kind: Kind, sig: &[u16], budget: u64, next: u16, top: u16, closed: u16) -> Reached
+    ensures { λ r. ⌜ Reaches r (turnOf kind (now (sig .entry)) budget (at next top closed)) ⌝ }
+{
+    let fault = start_fault(kind, sig.len(), next, top, closed);
+    if fault != 0 {
+        return halted(next, top, closed, 0, REFUSED, fault, 0);
+    }
+    let n = (sig.len() / 4) as u16;
+    let any_name = kind.any_name();
+    run(sig, n, any_name, budget, next, top, closed)
+}
+
+// The stop reason of these numbers.
+fn stop_of(reason: u16, number: u16, entry: u16) -> Stop
+    ensures { λ r. ⌜ told r ≡ toldAs reason number entry ⌝ }
+{
+    if reason == ENDED {
+        return Stop::End;
+    }
+    if reason == SPENT {
+        return Stop::Budget;
+    }
+    Stop::Refused(Refusal {
+        number,
+        entry: PreRank(entry),
+    })
+}
+
+// The state of these three numbers.
+fn state_of(next: u16, top: u16, closed: u16) -> CheckState
+    ensures { λ r. ⌜ r ≡ at next top closed ⌝ }
+{
+    CheckState {
+        next: PreRank(next),
+        top: PreRank(top),
+        closed: PostRank(closed),
+    }
+}
+
 impl CheckState {
     // The state of a check that begins.
     pub fn fresh() -> Self
         ensures { λ r. ⌜ r ≡ fresh ⌝ }
     {
-        CheckState {
-            next: PreRank(1),
-            top: PreRank(0),
-            closed: PostRank(0),
-        }
+        state_of(1, 0, 0)
     }
 
-    // A turn of the check that may spend budget steps. Its start costs the same for every size.
+    // A turn of the check that may spend budget steps.
     pub fn turn(self, kind: Kind, sig: &[u16], budget: u64) -> CheckTurn
         ensures { λ r. ⌜ TurnPromise kind (now (sig .entry)) budget self r ⌝ }
     {
-        let len = sig.len();
-        let fault = length_fault(kind, len);
-        if fault != 0 {
-            return refused(self, fault);
-        }
-        let n = (len / 4) as u16;
-        let any_name = kind.any_name();
-        if is_in_range(n, self) {
-            run(sig, n, any_name, budget, self)
-        } else {
-            refused(self, BAD_STATE)
+        let reached = reach(kind, sig, budget, self.next.0, self.top.0, self.closed.0);
+        let stop = stop_of(reached.reason, reached.number, reached.entry);
+        let state = state_of(reached.next, reached.top, reached.closed);
+        CheckTurn {
+            state,
+            steps: reached.steps,
+            stop,
         }
     }
 }
 
-// The whole check. One step more than the largest tree takes is never all spent, so what is not refused is accepted.
+// What stops a check begun fresh. One step more than the largest tree takes is never all spent.
+fn whole_stop(kind: Kind, sig: &[u16]) -> Stop
+    ensures { λ r. ⌜ told r ≡ wholeOf kind (now (sig .entry)) ⌝ }
+{
+    let most = kind.most() as u64;
+    let budget = 2 * most + 1;
+    let reached = reach(kind, sig, budget, 1, 0, 0);
+    stop_of(reached.reason, reached.number, reached.entry)
+}
+
+// The whole check: what is not refused is accepted.
 pub fn check_whole(kind: Kind, sig: &[u16]) -> Verdict
     ensures { λ r. ⌜ WholePromise kind (now (sig .entry)) r ⌝ }
 {
-    let most = kind.most() as u64;
-    let turn = CheckState::fresh().turn(kind, sig, 2 * most + 1);
-    let stop = turn.stop;
+    let stop = whole_stop(kind, sig);
     let Stop::Refused(refusal) = stop else {
         return Verdict::Accepted;
     };

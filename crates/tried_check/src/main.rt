@@ -1,22 +1,31 @@
 // Tries the check at the edges that document 01 does not star, and prints what it says; what is printed is compared with the file stdout.
 // A line has the case's letter, what stopped the turn (0 an answer, 1 the end, 2 the budget, 3 a refusal), the refusal's number and entry,
 // the steps, and the state handed back.
+mod ten;
+
 use checking::CheckState;
 use checking::CheckTurn;
 use checking::Kind;
 use checking::PostRank;
 use checking::PreRank;
+use checking::Refusal;
 use checking::Stop;
 use checking::Verdict;
 use libc::STDOUT_FILENO;
+use ten::TEN;
 
 fn number(x: u64) {
     io::write_all(STDOUT_FILENO, b" ");
     io::print_decimal(STDOUT_FILENO, x);
 }
 
-fn wide(x: u16) -> u64 {
-    x as u64
+fn small(x: u16) {
+    number(x as u64);
+}
+
+fn refused(refusal: Refusal) {
+    small(refusal.number);
+    small(refusal.entry.0);
 }
 
 fn stopped(stop: Stop) {
@@ -32,10 +41,16 @@ fn stopped(stop: Stop) {
         }
         Stop::Refused(refusal) => {
             io::write_all(STDOUT_FILENO, b" 3");
-            number(wide(refusal.number));
-            number(wide(refusal.entry.0));
+            refused(refusal);
         }
     }
+}
+
+fn placed(next: u16, top: u16, closed: u16) {
+    small(next);
+    small(top);
+    small(closed);
+    io::write_all(STDOUT_FILENO, b"\n");
 }
 
 fn shown(label: &[u8], turn: CheckTurn) {
@@ -44,10 +59,7 @@ fn shown(label: &[u8], turn: CheckTurn) {
     stopped(stop);
     number(turn.steps);
     let state = turn.state;
-    number(wide(state.next.0));
-    number(wide(state.top.0));
-    number(wide(state.closed.0));
-    io::write_all(STDOUT_FILENO, b"\n");
+    placed(state.next.0, state.top.0, state.closed.0);
 }
 
 fn judged(label: &[u8], verdict: Verdict) {
@@ -58,8 +70,7 @@ fn judged(label: &[u8], verdict: Verdict) {
         }
         Verdict::Refused(refusal) => {
             io::write_all(STDOUT_FILENO, b" refused");
-            number(wide(refusal.number));
-            number(wide(refusal.entry.0));
+            refused(refusal);
             io::write_all(STDOUT_FILENO, b"\n");
         }
     }
@@ -129,168 +140,127 @@ fn fill(sig: &mut [u16], shape: u16, n: usize) {
     }
 }
 
-// Turns of b steps and then the rest, for each b: the states and sums are those of one turn.
+// A turn from the fresh state.
+fn tried(label: &[u8], kind: Kind, sig: &[u16], budget: u64) {
+    let fresh = CheckState::fresh();
+    shown(label, fresh.turn(kind, sig, budget));
+}
+
+// A turn from a state as it is handed over.
+fn went_on(label: &[u8], state: CheckState, sig: &[u16], budget: u64) {
+    shown(label, state.turn(Kind::Data, sig, budget));
+}
+
+// A turn from a state of these numbers.
+fn resumed(label: &[u8], next: u16, top: u16, closed: u16, sig: &[u16], budget: u64) {
+    went_on(label, at(next, top, closed), sig, budget);
+}
+
+fn whole(label: &[u8], kind: Kind, sig: &[u16]) {
+    judged(label, checking::check_whole(kind, sig));
+}
+
+// A turn of b steps and then the rest: the states and sums are those of one turn.
+fn cut(sig: &[u16], b: u64) {
+    let first = CheckState::fresh().turn(Kind::Data, sig, b);
+    shown(b"cut", first);
+    let state = first.state;
+    went_on(b"then", state, sig, 1000);
+}
+
 fn cuts(sig: &[u16]) {
     let mut b = 0;
     while b < 22 {
-        let first = CheckState::fresh().turn(Kind::Data, sig, b);
-        shown(b"cut", first);
-        let state = first.state;
-        shown(b"then", state.turn(Kind::Data, sig, 1000));
+        cut(sig, b);
         b += 1;
     }
 }
 
 fn lengths() {
-    shown(
-        b"empty",
-        CheckState::fresh().turn(Kind::Data, &[0u16; 0], 9),
-    );
-    shown(
-        b"five",
-        CheckState::fresh().turn(Kind::Data, &[1u16, 1, 2, 0, 1], 9),
-    );
-    shown(
-        b"cut",
-        CheckState::fresh().turn(Kind::Data, &[1u16; 16389], 9),
-    );
-    shown(
-        b"over",
-        CheckState::fresh().turn(Kind::Data, &[1u16; 16388], 9),
-    );
-    shown(
-        b"twig",
-        CheckState::fresh().turn(Kind::Twig, &[1u16; 68], 9),
-    );
+    tried(b"empty", Kind::Data, &[0u16; 0], 9);
+    tried(b"five", Kind::Data, &[1u16, 1, 2, 0, 1], 9);
+    tried(b"cut", Kind::Data, &[1u16; 16389], 9);
+    tried(b"over", Kind::Data, &[1u16; 16388], 9);
+    tried(b"twig", Kind::Twig, &[1u16; 68], 9);
 }
 
-// The three shapes at the greatest size, and one more; the shapes as twigs of 16 and 17.
-fn sizes(shape: u16) {
-    let mut large = [0u16; 16384];
-    fill(&mut large, shape, 4096);
-    shown(b"4096", CheckState::fresh().turn(Kind::Data, &large, 8192));
-    shown(b"less", CheckState::fresh().turn(Kind::Data, &large, 8191));
-    judged(b"whole", checking::check_whole(Kind::Data, &large));
-    let mut larger = [0u16; 16388];
-    fill(&mut larger, shape, 4097);
-    shown(b"4097", CheckState::fresh().turn(Kind::Data, &larger, 8194));
+// A shape at the greatest size of a data tree.
+fn largest(shape: u16) {
+    let mut sig = [0u16; 16384];
+    fill(&mut sig, shape, 4096);
+    tried(b"4096", Kind::Data, &sig, 8192);
+    tried(b"less", Kind::Data, &sig, 8191);
+    whole(b"whole", Kind::Data, &sig);
+}
+
+// The same with one element more.
+fn one_more(shape: u16) {
+    let mut sig = [0u16; 16388];
+    fill(&mut sig, shape, 4097);
+    tried(b"4097", Kind::Data, &sig, 8194);
+}
+
+// The shape as twigs of 16 and 17.
+fn twigs(shape: u16) {
     let mut small = [0u16; 64];
     fill(&mut small, shape, 16);
-    shown(b"16", CheckState::fresh().turn(Kind::Twig, &small, 32));
+    tried(b"16", Kind::Twig, &small, 32);
     let mut over = [0u16; 68];
     fill(&mut over, shape, 17);
-    judged(b"17", checking::check_whole(Kind::Twig, &over));
+    whole(b"17", Kind::Twig, &over);
 }
 
-// Each refusal by an input made for it.
-fn refusals() {
-    shown(
-        b"name",
-        CheckState::fresh().turn(Kind::Data, &[0u16, 1, 2, 0], 9),
-    );
-    shown(
-        b"any",
-        CheckState::fresh().turn(Kind::Twig, &[0u16, 1, 2, 0], 9),
-    );
-    shown(
-        b"fa",
-        CheckState::fresh().turn(Kind::Data, &[1u16, 1, 2, 1], 9),
-    );
-    shown(
-        b"roots",
-        CheckState::fresh().turn(Kind::Data, &[5u16, 2, 3, 0, 5, 1, 3, 0], 1),
-    );
-    shown(
-        b"roots",
-        CheckState::fresh().turn(Kind::Data, &[5u16, 2, 3, 0, 5, 1, 3, 0], 2),
-    );
-    shown(
-        b"post",
-        CheckState::fresh().turn(Kind::Data, &[5u16, 1, 3, 0, 5, 2, 3, 1], 9),
-    );
-    shown(
-        b"ff",
-        CheckState::fresh().turn(Kind::Data, &[5u16, 2, 3, 0, 5, 1, 2, 1], 9),
-    );
-    shown(
-        b"shut",
-        CheckState::fresh().turn(
-            Kind::Data,
-            &[1u16, 3, 4, 0, 1, 1, 3, 1, 1, 2, 4, 1, 1, 4, 5, 2],
-            9,
-        ),
-    );
+fn sizes(shape: u16) {
+    largest(shape);
+    one_more(shape);
+    twigs(shape);
 }
 
-// Altered states, in and out of the ranges.
-fn states() {
-    let two = [5u16, 2, 3, 0, 5, 1, 3, 1];
-    shown(b"next 0", at(0, 0, 0).turn(Kind::Data, &two, 9));
-    shown(b"next 4", at(4, 0, 0).turn(Kind::Data, &two, 9));
-    shown(b"top", at(2, 2, 0).turn(Kind::Data, &two, 9));
-    shown(b"closed", at(2, 1, 2).turn(Kind::Data, &two, 9));
-    shown(b"out", at(65535, 65535, 65535).turn(Kind::Data, &two, 0));
-    shown(b"full", at(3, 2, 2).turn(Kind::Data, &two, 9));
-    shown(
-        b"first",
-        at(2, 1, 1).turn(Kind::Data, &[5u16, 2, 3, 0, 5, 1, 3, 0], 9),
-    );
-    shown(b"done", at(3, 0, 1).turn(Kind::Data, &two, 0));
-    shown(
-        b"up",
-        at(3, 2, 0).turn(Kind::Data, &[5u16, 2, 3, 0, 5, 1, 3, 2], 9),
-    );
-    shown(b"none", at(2, 0, 0).turn(Kind::Data, &two, 9));
+// Refusals at an entry that would open, each by an input made for it.
+fn refused_opens() {
+    tried(b"name", Kind::Data, &[0u16, 1, 2, 0], 9);
+    tried(b"any", Kind::Twig, &[0u16, 1, 2, 0], 9);
+    tried(b"fa", Kind::Data, &[1u16, 1, 2, 1], 9);
+    let roots = [5u16, 2, 3, 0, 5, 1, 3, 0];
+    tried(b"roots", Kind::Data, &roots, 1);
+    tried(b"roots", Kind::Data, &roots, 2);
+}
+
+// Refusals at an element that would close, and at one whose parent is closed.
+fn refused_closes() {
+    tried(b"post", Kind::Data, &[5u16, 1, 3, 0, 5, 2, 3, 1], 9);
+    tried(b"ff", Kind::Data, &[5u16, 2, 3, 0, 5, 1, 2, 1], 9);
+    let shut = [1u16, 3, 4, 0, 1, 1, 3, 1, 1, 2, 4, 1, 1, 4, 5, 2];
+    tried(b"shut", Kind::Data, &shut, 9);
+}
+
+// Altered states out of the ranges; the last one with no step to spend.
+fn states_out(two: &[u16]) {
+    resumed(b"next 0", 0, 0, 0, two, 9);
+    resumed(b"next 4", 4, 0, 0, two, 9);
+    resumed(b"top", 2, 2, 0, two, 9);
+    resumed(b"closed", 2, 1, 2, two, 9);
+    resumed(b"out", 65535, 65535, 65535, two, 0);
+}
+
+// Altered states within the ranges; the finished one with no step to spend.
+fn states_in(two: &[u16]) {
+    resumed(b"full", 3, 2, 2, two, 9);
+    resumed(b"first", 2, 1, 1, &[5u16, 2, 3, 0, 5, 1, 3, 0], 9);
+    resumed(b"done", 3, 0, 1, two, 0);
+    resumed(b"up", 3, 2, 0, &[5u16, 2, 3, 0, 5, 1, 3, 2], 9);
+    resumed(b"none", 2, 0, 0, two, 9);
 }
 
 fn main() {
-    let ten: [u16; 40] = [
-        1,
-        10,
-        11,
-        0,
-        2,
-        5,
-        7,
-        1,
-        3,
-        3,
-        6,
-        2,
-        4,
-        1,
-        5,
-        3,
-        5,
-        2,
-        6,
-        3,
-        7,
-        4,
-        7,
-        2,
-        6,
-        9,
-        11,
-        1,
-        8,
-        8,
-        11,
-        7,
-        9,
-        6,
-        10,
-        8,
-        10,
-        7,
-        11,
-        8,
-    ];
-    cuts(&ten);
+    cuts(&TEN);
     lengths();
     sizes(0);
     sizes(1);
     sizes(2);
-    refusals();
-    states();
+    refused_opens();
+    refused_closes();
+    let two = [5u16, 2, 3, 0, 5, 1, 3, 1];
+    states_out(&two);
+    states_in(&two);
 }

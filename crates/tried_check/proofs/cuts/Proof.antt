@@ -5,34 +5,16 @@ use Rattle.tried_check.proofs.cuts.Statement.{statement}
 use Rattle.tried_check.proofs.cuts.Tie as tie
 
 abbrev Inv-loop : tie.InvT-loop
-Inv-loop sig b₀ t5 t6 b = b ≤ 22
+Inv-loop sig b₀ b = b ≤ 22
 
 abbrev μ-loop : tie.MeasureT-loop
-μ-loop sig b₀ t5 t6 b = 22 - b
+μ-loop sig b₀ b = 22 - b
 
 loop-holds : tie.Need-loop-holds Inv-loop μ-loop
 loop-holds c = search needs
 
-fresh-requires : tie.Need-fresh-requires Inv-loop μ-loop
-fresh-requires c κs = search needs
-
-turn-requires : tie.Need-turn-requires Inv-loop μ-loop
-turn-requires c κs = search needs
-
-slice-aggregate-shown : tie.Need-slice-aggregate-shown Inv-loop μ-loop
-slice-aggregate-shown c = search needs
-
-shown-requires : tie.Need-shown-requires Inv-loop μ-loop
-shown-requires c κs = search needs
-
-slice-aggregate-shown-2 : tie.Need-slice-aggregate-shown-2 Inv-loop μ-loop
-slice-aggregate-shown-2 c = search needs
-
-turn-requires-2 : tie.Need-turn-requires-2 Inv-loop μ-loop
-turn-requires-2 c κs = search needs
-
-shown-requires-2 : tie.Need-shown-requires-2 Inv-loop μ-loop
-shown-requires-2 c κs = search needs
+cut-requires : tie.Need-cut-requires Inv-loop μ-loop
+cut-requires c κs = search needs
 
 add-b : tie.Need-add-b Inv-loop μ-loop
 add-b c = search needs
@@ -53,13 +35,7 @@ cuts-spec =
     Inv-loop
     μ-loop
     loop-holds
-    fresh-requires
-    turn-requires
-    slice-aggregate-shown
-    shown-requires
-    slice-aggregate-shown-2
-    turn-requires-2
-    shown-requires-2
+    cut-requires
     add-b
     loop-less
     loop-again

@@ -3,8 +3,8 @@ use Rattle.trees.specs.Signature.{cell}
 use Rattle.checking.proofs.Cases.{entry-ends}
 use native.Mathlib.Omega.{arith}
 use borrow.Author.Needs.{needs}
-use Rattle.checking.proofs.number.Statement.{statement}
-use Rattle.checking.proofs.number.Tie as tie
+use Rattle.checking.proofs.steps.number.Statement.{statement}
+use Rattle.checking.proofs.steps.number.Tie as tie
 
 sub-result : tie.Need-sub-result
 sub-result c = search needs
