@@ -1,50 +1,26 @@
 -- Signature records: which refusal a record has under which facts, and what a record without one is.
---   marked-…          the test of a mark
+--   records-…         the end of the records
 --   record-…          the refusals of a record, in their order
 --   record-passed     what a record without refusal is
-use Prim.Native.Nat.{ℕ, zero, suc, _+_, _-_, _*_, _/_, _≤_, _<_}
-use mathlib.Core.Path.{_≡_, refl, ap, _∙_, sym}
+use Prim.Native.Nat.{ℕ, _+_, _-_, _/_, _≤_, _<_}
+use mathlib.Core.Path.{_≡_, refl, ap}
 use mathlib.Core.Bool.{Bool, true, false, not, _&&_}
-use mathlib.Core.List.{List, [], _∷_}
+use mathlib.Core.List.{List}
 use native.Mathlib.Omega.{arith}
-use lib.ListN.{length, getD}
+use lib.ListN.{length}
 use lib.Dec.{ltb, leb, eqb}
-use borrow.Author.Tests.{ltb-true, ltb-false, leb-true, leb-false, eqb-true, eqb-false, lt-ltb, le-ltb, le-leb, lt-leb, eq-eqb, ne-eqb}
-use Rattle.turns.specs.Pick.{pick}
-use Rattle.records.specs.declared.Scan.{Scan}
-use Rattle.records.specs.Bytes.{numberAt, marked}
-use Rattle.records.specs.Scans.{firstFault}
-use Rattle.records.specs.Records.{recordFault, recordsEnd, writeFault, namelessFrom}
+use borrow.Author.Tests.{ltb-false, leb-false, eqb-false, lt-ltb, le-ltb, le-leb, lt-leb, eq-eqb, ne-eqb}
+use Rattle.bytes_read.specs.Bytes.{numberAt, marked}
+use Rattle.bytes_read.specs.Scans.{Scan, firstFault}
+use Rattle.records.specs.Records.{recordAt, recordNext, recordFault, recordsEnd, writeFault, namelessFrom}
 use Rattle.trees.specs.Signature.{width}
 use Rattle.checking.specs.Kinds.{most}
 use Rattle.checking.specs.Turn.{lengthFault}
 use Rattle.checking.specs.declared.Kind.{Kind}
 
-module _ (b : List ℕ) (p x y : ℕ) where
-  pub marked-first : (getD b p 0 ≡ x → ⊥) → marked b p x y ≡ false
-  unfolding marked
-  marked-first h = simp (ne-eqb _ _ h)
-
-  pub marked-second : (getD b (p + 1) 0 ≡ y → ⊥) → marked b p x y ≡ false
-  unfolding marked
-  marked-second h = go (eqb (getD b p 0) x)
-    where
-      go : (t : Bool) → (t && eqb (getD b (p + 1) 0) y) ≡ false
-      go true = ne-eqb _ _ h
-      go false = refl
-
-  pub marked-yes : getD b p 0 ≡ x → getD b (p + 1) 0 ≡ y → marked b p x y ≡ true
-  unfolding marked
-  marked-yes h k = simp (eq-eqb _ _ h, eq-eqb _ _ k)
-
-  pub marked-is : marked b p x y ≡ true → (getD b p 0 ≡ x) × (getD b (p + 1) 0 ≡ y)
-  unfolding marked
-  marked-is = go (eqb (getD b p 0) x) (eqb (getD b (p + 1) 0) y) refl refl
-    where
-      go : (s t : Bool) → eqb (getD b p 0) x ≡ s → eqb (getD b (p + 1) 0) y ≡ t → (s && t) ≡ true → (getD b p 0 ≡ x) × (getD b (p + 1) 0 ≡ y)
-      go true true u v h = (eqb-true _ _ u, eqb-true _ _ v)
-      go true false u v h = let z : _≡_ {A = ℕ} 0 1 = cc in absurd (omega arith)
-      go false t u v h = let z : _≡_ {A = ℕ} 0 1 = cc in absurd (omega arith)
+-- one record more
+pub record-after : (n : ℕ) → recordAt (n + 1) ≡ recordNext (recordAt n)
+record-after n = ap (λ (p : ℕ). record { at = p; depth = 0; count = n + 1 }) (omega arith)
 
 module _ (b : List ℕ) (st : Scan) where
   pub records-end : st .at ≡ length b → 0 < st .count → recordsEnd b st ≡ true

@@ -2,8 +2,8 @@
 --   numbers-length, bytes-length   how long the results are
 --   numbers-next, bytes-next       the first of several entries, and the others
 use Prim.Native.Nat.{ℕ, zero, suc, _+_, _-_, _*_, _≤_, _<_}
-use mathlib.Core.Path.{_≡_, refl, ap, _∙_, sym}
-use mathlib.Core.List.{List, [], _∷_, _++_}
+use mathlib.Core.Path.{_≡_, refl, ap, _∙_}
+use mathlib.Core.List.{List, [], _∷_}
 use native.Mathlib.Omega.{arith}
 use native.Mathlib.Nat.{not-suc-le-zero}
 use lib.ListN.{length, getD}
@@ -11,8 +11,8 @@ use lib.Seq.{sets}
 use lib.Dec.{eqb}
 use mathlib.Core.Bool.{Bool, true, false, _||_}
 use borrow.Author.Tests.{eq-eqb, ne-eqb}
-use Rattle.records.proofs.Rooms.{Storing, storing-more}
-use Rattle.records.specs.Bytes.{numberAt, low, high}
+use Rattle.bytes_read.proofs.Rooms.{Storing, storing-more}
+use Rattle.bytes_read.specs.Bytes.{numberAt}
 use Rattle.records.specs.Records.{numbersFrom, entryBytes, bytesFrom, namelessFrom}
 
 pub numbers-length : (b : List ℕ) (p n : ℕ) → length (numbersFrom b p n) ≡ 4 * n
@@ -32,13 +32,13 @@ numbers-next b p (suc n) h =
 pub numbers-more : (b : List ℕ) (i n : ℕ) → i < n
     → numbersFrom b (10 * i) (n - i)
     ≡ numberAt b (10 * i + 2) ∷ numberAt b (10 * i + 4) ∷ numberAt b (10 * i + 6) ∷ numberAt b (10 * i + 8)
-      ∷ numbersFrom b (10 * (i + 1)) (n - (i + 1))
+    ∷ numbersFrom b (10 * (i + 1)) (n - (i + 1))
 numbers-more b i n h =
     let p : 10 * i + 10 ≡ 10 * (i + 1) = omega arith in
     let q : n - i - 1 ≡ n - (i + 1) = omega arith in
     numbers-next b (10 * i) (n - i) (omega arith)
     ∙ ap (λ (r : List ℕ). numberAt b (10 * i + 2) ∷ numberAt b (10 * i + 4) ∷ numberAt b (10 * i + 6) ∷ numberAt b (10 * i + 8) ∷ r)
-      (ap (λ (k : ℕ). numbersFrom b k (n - i - 1)) p ∙ ap (numbersFrom b (10 * (i + 1))) q)
+    (ap (λ (k : ℕ). numbersFrom b k (n - i - 1)) p ∙ ap (numbersFrom b (10 * (i + 1))) q)
 
 -- no entry is left
 pub numbers-none : (b : List ℕ) (p n : ℕ) → n ≤ 0 → numbersFrom b p n ≡ []
@@ -78,7 +78,7 @@ bytes-more s i n h =
     let q : n - i - 1 ≡ n - (i + 1) = omega arith in
     bytes-next s (4 * i) (n - i) (omega arith)
     ∙ ap (entryBytes (getD s (4 * i) 0) (getD s (4 * i + 1) 0) (getD s (4 * i + 2) 0) (getD s (4 * i + 3) 0))
-      (ap (λ (k : ℕ). bytesFrom s k (n - i - 1)) p ∙ ap (bytesFrom s (4 * (i + 1))) q)
+    (ap (λ (k : ℕ). bytesFrom s k (n - i - 1)) p ∙ ap (bytesFrom s (4 * (i + 1))) q)
 
 pub bytes-none : (s : List ℕ) (k n : ℕ) → n ≤ 0 → bytesFrom s k n ≡ []
 unfolding bytesFrom

@@ -1,8 +1,2 @@
--- Records: marked records, read and written; their promises.
-pub mod Bytes
-pub mod Scans
-pub mod Room
+-- Records: signature records, read and written; their promises.
 pub mod Records
-pub mod TagLists
-pub mod Builds
-pub mod TagsBack

@@ -1,12 +1,12 @@
 -- Signature records: "`SE` and the four numbers, 10 bytes".
 --   recordFault b st        the refusal of the record at the scan's place
+--   recordAt n              where a reader stands after n records
 --   recordsScan b           all records of b
 --   numbersFrom b p n       the numbers of n records from place p on
 --   bytesFrom s k n         the records of n entries, from number k of the signature on
 --   ReadPromise, WritePromise   the promises of the two calls
-use Prim.Native.Nat.{ℕ, zero, suc, _+_, _*_, _/_, _≤_}
-use mathlib.Core.Path.{_≡_}
-use mathlib.Core.Bool.{Bool, true, false, not, _&&_, _||_}
+use Prim.Native.Nat.{ℕ, zero, suc, _+_, _*_, _/_}
+use mathlib.Core.Bool.{Bool, false, not, _&&_, _||_}
 use mathlib.Core.List.{List, [], _∷_}
 use lib.ListN.{length, getD}
 use lib.Dec.{ltb, leb, eqb}
@@ -17,10 +17,9 @@ use Rattle.checking.specs.Kinds.{most}
 use Rattle.checking.specs.Turn.{lengthFault}
 use Rattle.checking.specs.declared.Kind.{Kind}
 use Rattle.checking.specs.declared.Written.{Written}
-use Rattle.records.specs.declared.Scan.{Scan}
-use Rattle.records.specs.Bytes.{numberAt, low, high, marked}
-use Rattle.records.specs.Scans.{firstFault, begin, scanBy, haltNumber}
-use Rattle.records.specs.Room.{RoomPromise}
+use Rattle.bytes_read.specs.Bytes.{numberAt, low, high, marked}
+use Rattle.bytes_read.specs.Scans.{Scan, firstFault, begin, scanBy, haltNumber}
+use Rattle.bytes_read.specs.Room.{RoomPromise}
 
 -- "Signature-record calls judge only the name."
 unfoldable pub recordFault : List ℕ → Scan → ℕ
@@ -30,6 +29,10 @@ recordFault b st =
 
 abbrev pub recordNext : Scan → Scan
 recordNext st = record { at = st .at + 10; depth = st .depth; count = st .count + 1 }
+
+-- after n records, each of 10 bytes
+abbrev pub recordAt : ℕ → Scan
+recordAt n = record { at = 10 * n; depth = 0; count = n }
 
 -- some record, and no byte after the last one
 unfoldable pub recordsEnd : List ℕ → Scan → Bool

@@ -3,29 +3,28 @@
 --   row-passes                  nested tags are passed
 --   scan-complete               so is the tag list of a tree of the kind
 --   numbers-there               and its numbers are the tree's signature
-use Prim.Native.Nat.{ℕ, zero, suc, _+_, _-_, _*_, _/_, _%_, _≤_, _<_}
+use Prim.Native.Nat.{ℕ, zero, suc, _+_, _-_, _*_, _≤_, _<_}
 use mathlib.Core.Path.{_≡_, refl, ap, _∙_, sym, subst}
 use mathlib.Core.Bool.{Bool, true, false}
 use mathlib.Core.List.{List, [], _∷_, _++_}
 use native.Mathlib.Omega.{arith}
 use lib.ListN.{length, getD, drop, length-drop}
 use lib.Seq.{drop-drop, getD-drop}
-use Rattle.turns.specs.Turn.{moved, Moves, stay, move, Halt, Turned}
-use Rattle.trees.specs.Tree.{Forest, none, elem, Tree, size, whole, NotZero, Allowed, Grown}
+use Rattle.turns.specs.Turn.{moved, stay, move, Turned}
+use Rattle.trees.specs.Tree.{Tree, size, whole, NotZero, Allowed, Grown}
 use Rattle.trees.specs.Signature.{signature}
 use Rattle.trees.specs.Tags.{Tag, opens, closes, tagsOf, treeTags, treeOf, Nested}
 use Rattle.trees.specs.TagLaws.{tags-length, tags-read}
 use Rattle.trees.specs.Nesting.{tree-nested}
-use Rattle.records.specs.declared.Scan.{Scan}
-use Rattle.records.specs.Bytes.{numberAt, low, high, marked}
-use Rattle.records.specs.Scans.{begin, stepBy, haltNumber}
-use Rattle.records.specs.TagLists.{opening, closing, rootClosed, namelessAt, tagFault, tagNext, treeEnd, treeScan, tagBytes, tagsFrom, treeNumbers, numbersIn}
-use Rattle.records.proofs.Faults.{marked-yes, marked-first}
-use Rattle.records.proofs.Scanning.{step-passed, passed-grow, scan-ended}
-use Rattle.records.proofs.TagFaults.{closed-open, closed-none, closed-yes, end-open, end-here, end-last, nameless-any, nameless-other, open-fine, close-fine, next-open, next-close}
-use Rattle.records.proofs.Judging.{Tagged, tag-passes}
-use Rattle.records.proofs.Emit.{tag-bytes-length}
-use Rattle.records.proofs.Build.{tags-open, tags-close, tags-none}
+use Rattle.bytes_read.specs.Bytes.{numberAt, low, high}
+use Rattle.bytes_read.specs.Scans.{Scan, begin, stepBy, haltNumber}
+use Rattle.tag_lists.specs.TagLists.{opening, rootClosed, namelessAt, tagFault, tagNext, treeEnd, treeScan, tagBytes, tagsFrom, treeNumbers, numbersIn}
+use Rattle.bytes_read.proofs.Marks.{marked-yes, marked-first}
+use Rattle.bytes_read.proofs.Scanning.{step-passed, passed-grow, scan-ended}
+use Rattle.tag_lists.proofs.TagFaults.{closed-open, closed-none, closed-yes, end-open, end-here, end-last, nameless-any, nameless-other, open-fine, close-fine, next-open, next-close}
+use Rattle.tag_lists.proofs.Judging.{Tagged, tag-passes}
+use Rattle.tag_writing.proofs.Emit.{tag-bytes-length}
+use Rattle.tag_lists.proofs.Build.{tags-open, tags-close, tags-none}
 use Rattle.retold.specs.Names.{TagNames, opensIn, opens-row, row-names}
 
 module _ (b : List ℕ) where
@@ -87,7 +86,7 @@ module _ (all any : Bool) (most : ℕ) (b : List ℕ) where
       let three : getD b (st .at + 2 + 1) 0 ≡ high a = (let q : st .at + 2 + 1 ≡ st .at + 3 = omega arith in ap (λ (x : ℕ). getD b x 0) q ∙ byte b (st .at) 3 _ e) in
       let number : numberAt b (st .at + 2) ≡ a = omega arith in
       step-passed (tagFault any most b) (tagNext b) st
-        (open-fine any most b st (omega arith) (omega arith) o (omega arith) (named (st .at) a number (h .some)) n f)
+      (open-fine any most b st (omega arith) (omega arith) o (omega arith) (named (st .at) a number (h .some)) n f)
       ∙ ap moved (next-open any most b st o)
 
   pub close-passes : (st : Scan) (r : List ℕ) → drop (st .at) b ≡ 67 ∷ 76 ∷ r → (st .depth ≡ 0 → ⊥)
@@ -152,7 +151,7 @@ module _ (all any : Bool) (most : ℕ) (b : List ℕ) where
   row-passes (x ∷ l) zero p c rest n h f e = absurd n
   row-passes (opens a ∷ l) (suc d) p c rest n h f e =
       let q : suc (suc d) ≡ suc d + 1 = omega arith in
-      leads-open l (record { at = p; depth = suc d; count = c }) a rest e (h .0) (closed-open _ (λ z. omega arith)) (omega arith)
+      leads-open l (record { at = p; depth = suc d; count = c }) a rest e (h .0) (closed-open (record { at = p; depth = suc d; count = c }) (λ z. omega arith)) (omega arith)
       (subst (λ (x : ℕ). Leads l (record { at = p + 4; depth = x; count = c + 1 }) rest) q
       (row-passes l (suc (suc d)) (p + 4) (c + 1) rest n (h .1) (omega arith) (later b p 4 _ e)))
   row-passes (closes ∷ l) (suc d) p c rest n h f e =
@@ -197,7 +196,7 @@ module _ (all any : Bool) (most : ℕ) (b : List ℕ) where
       let wide = tag-bytes-length (whole t) in
       let closed = closed-yes (x .to) (x .depth-is) (omega (arith, x .count-is)) in
       let s = scan-ended (treeEnd all b) (tagFault any most b) (tagNext b) (length b) (tag-passes all any most b) (x .passed)
-            (ends all refl (x .to) rest h closed (grow .1 (omega arith)) (x .rest-is)) in
+      (ends all refl (x .to) rest h closed (grow .1 (omega arith)) (x .rest-is)) in
       record {
         number-is = ap (λ (y : Turned Scan). haltNumber (y .halt)) s;
         count-is = ap (λ (y : Turned Scan). y .state .count) s ∙ omega (arith, x .count-is);

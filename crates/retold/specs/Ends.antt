@@ -2,7 +2,7 @@
 --   whole-ends   where the reader stands then
 --   never-ten    no contents are refused as a room that is too small
 use Prim.Native.Nat.{ℕ, _+_}
-use mathlib.Core.Path.{_≡_, refl, ap, _∙_, sym}
+use mathlib.Core.Path.{_≡_, refl, _∙_, sym}
 use mathlib.Core.Logic.{_⊎_, inl, inr}
 use mathlib.Core.Bool.{Bool, true, false, not, _&&_, _||_}
 use mathlib.Core.List.{List}
@@ -11,11 +11,10 @@ use lib.ListN.{length}
 use lib.Dec.{eqb, leb, ltb}
 use borrow.Author.Tests.{eqb-true}
 use Rattle.turns.specs.Pick.{pick}
-use Rattle.records.specs.declared.Scan.{Scan}
-use Rattle.records.specs.Scans.{begin, firstFault, haltNumber}
-use Rattle.records.specs.TagLists.{opening, closing, namelessAt, misnested, rootClosed, tagFault, tagNext, treeEnd, treeScan}
-use Rattle.records.proofs.Judging.{tag-passes}
-use Rattle.records.proofs.Scanning.{Ended, Faulty, scan-comes}
+use Rattle.bytes_read.specs.Scans.{Scan, begin, firstFault, haltNumber}
+use Rattle.tag_lists.specs.TagLists.{opening, closing, namelessAt, misnested, rootClosed, tagFault, tagNext, treeEnd, treeScan}
+use Rattle.tag_lists.proofs.Judging.{tag-passes}
+use Rattle.bytes_read.proofs.Scanning.{Ended, Faulty, scan-comes}
 
 end-at : (b : List ℕ) (st : Scan) → treeEnd true b st ≡ true → st .at ≡ length b
 unfolding treeEnd
@@ -54,10 +53,10 @@ fault-not-ten any most b st =
     go false false false false false false true q = omega arith
     go false false false false false false false q = omega arith
 
-pub never-ten : (any : Bool) (most : ℕ) (b : List ℕ) (p : ℕ) → haltNumber (treeScan true any most b p .halt) ≡ 10 → ⊥
-never-ten any most b p h = go (scan-comes (treeEnd true b) (tagFault any most b) (tagNext b) (length b) (tag-passes true any most b) (begin p))
+pub never-ten : (all any : Bool) (most : ℕ) (b : List ℕ) (p : ℕ) → haltNumber (treeScan all any most b p .halt) ≡ 10 → ⊥
+never-ten all any most b p h = go (scan-comes (treeEnd all b) (tagFault any most b) (tagNext b) (length b) (tag-passes all any most b) (begin p))
   where
-    go : Ended (treeEnd true b) (tagFault any most b) (tagNext b) (length b) (tag-passes true any most b) (begin p)
-        ⊎ Faulty (treeEnd true b) (tagFault any most b) (tagNext b) (length b) (tag-passes true any most b) (begin p) → ⊥
+    go : Ended (treeEnd all b) (tagFault any most b) (tagNext b) (length b) (tag-passes all any most b) (begin p)
+        ⊎ Faulty (treeEnd all b) (tagFault any most b) (tagNext b) (length b) (tag-passes all any most b) (begin p) → ⊥
     go (inl e) = omega (arith, e .number-is)
     go (inr e) = fault-not-ten any most b _ (sym (e .number-is) ∙ h)

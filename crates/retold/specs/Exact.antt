@@ -2,30 +2,27 @@
 --   Fine w                      the verdict before room: it worked, or 10 was given
 --   tags-accepted-exactly       bytes are taken exactly if they are the tag list of a tree of the kind
 --   tags-signature              and what is written then is that tree's signature
-use Prim.Native.Nat.{ℕ, zero, suc, _+_, _*_, _≤_, _<_}
+use Prim.Native.Nat.{ℕ, _+_, _≤_}
 use mathlib.Core.Path.{_≡_, refl, ap, _∙_, sym, subst}
 use mathlib.Core.Logic.{_⊎_, inl, inr}
-use mathlib.Core.Bool.{Bool, true, false}
-use mathlib.Core.List.{List, [], _∷_, _++_, append-nil}
+use mathlib.Core.Bool.{true}
+use mathlib.Core.List.{List, [], _++_, append-nil}
 use native.Mathlib.Omega.{arith}
-use lib.ListN.{length, getD, drop}
+use lib.ListN.{length, drop}
 use lib.Seq.{drop-length}
-use Rattle.trees.specs.Tree.{Tree, size, whole, Grown}
 use Rattle.trees.specs.Signature.{signature}
-use Rattle.trees.specs.Listed.{signature-length}
 use Rattle.trees.specs.Tags.{treeTags}
 use Rattle.checking.specs.Kinds.{anyName, most}
-use Rattle.checking.specs.Stops.{Answered, answered, refusedAs}
+use Rattle.checking.specs.Stops.{Answered, answered}
 use Rattle.checking.specs.declared.Kind.{Kind}
 use Rattle.checking.specs.declared.Written.{Written}
-use Rattle.records.specs.declared.Scan.{Scan}
-use Rattle.records.specs.Scans.{haltNumber}
-use Rattle.records.specs.Room.{Left, leftBy, frontWith}
-use Rattle.records.specs.TagLists.{tagBytes, treeScan, treeEnd, numbersIn, TagsPromise}
+use Rattle.bytes_read.specs.Scans.{haltNumber}
+use Rattle.bytes_read.specs.Room.{Left, leftBy, frontWith}
+use Rattle.tag_lists.specs.TagLists.{tagBytes, treeScan, numbersIn, TagsPromise}
 use Rattle.retold.specs.Rooms.{Case, refused, short, written, which, fits-written, ten-given}
 use Rattle.retold.specs.Taken.{Bytes, Taken}
-use Rattle.retold.specs.Sound.{Read, scan-sound}
-use Rattle.retold.specs.Complete.{Scanned, scan-complete, numbers-there}
+use Rattle.retold.specs.Sound.{scan-sound}
+use Rattle.retold.specs.Complete.{scan-complete, numbers-there}
 use Rattle.retold.specs.Ends.{whole-ends, never-ten}
 
 -- the verdict before room: it worked, or only the room was too small
@@ -41,13 +38,15 @@ module _ (k : Kind) (b : List ℕ) where
       → (y : Taken k b) × (numbersIn b 0 (treeScan true (anyName k) (most k) b 0 .state .count) ≡ signature (y .tree))
   fine-taken h z =
       let r = scan-sound true (anyName k) (most k) b h 0 z in
-      let e = whole-ends (anyName k) (most k) b 0 z in
-      (record {
-        tree = r .tree;
-        grown = r .grown;
-        is = r .bytes-are ∙ ap (λ (p : ℕ). tagBytes (treeTags (r .tree)) ++ drop p b) e
-            ∙ ap (λ (l : List ℕ). tagBytes (treeTags (r .tree)) ++ l) (drop-length b) ∙ append-nil (tagBytes (treeTags (r .tree)));
-      }, r .numbers)
+      let e = whole-ends (anyName k) (most k) b 0 z in (
+        record {
+          tree = r .tree;
+          grown = r .grown;
+          is = r .bytes-are ∙ ap (λ (p : ℕ). tagBytes (treeTags (r .tree)) ++ drop p b) e
+              ∙ ap (λ (l : List ℕ). tagBytes (treeTags (r .tree)) ++ l) (drop-length b) ∙ append-nil (tagBytes (treeTags (r .tree)));
+        },
+        r .numbers,
+      )
 
   -- the tag list of a tree is not refused, and the result is the tree's signature
   pub taken-fine : (y : Taken k b)
@@ -77,7 +76,7 @@ module _ (k : Kind) (b : List ℕ) where
             let z : 10 ≡ number = ap (λ (a : Answered). a .number) (ap answered (sym x) ∙ told _ (ap (λ (y : Left). y .answer) e)) in absurd (ten z)
           where
             ten : 10 ≡ number → ⊥
-            ten z = never-ten (anyName k) (most k) b 0 (sym z)
+            ten z = never-ten true (anyName k) (most k) b 0 (sym z)
 
     -- demand 2, of the verdict before room
     pub record Exactly : Type 0 where

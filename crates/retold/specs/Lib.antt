@@ -9,3 +9,7 @@ pub mod Exact
 pub mod There
 pub mod RecordsThere
 pub mod ShutOut
+pub mod Calls
+pub mod TreeExact
+pub mod RoundTrips
+pub mod CallsShut

@@ -1,7 +1,7 @@
 -- Signature records there and back.
---   records-read        records that are read without a refusal, written back, are the same bytes
---   records-written     a signature that is written without a refusal, read back, is the same numbers
-use Prim.Native.Nat.{ℕ, zero, suc, _+_, _-_, _*_, _/_, _%_, _≤_, _<_}
+--   Readable, records-read   records that are read without a refusal: how many, all with names, and written back the same bytes
+--   records-written          a signature that is written without a refusal, read back, is the same numbers
+use Prim.Native.Nat.{ℕ, zero, suc, _+_, _-_, _*_, _≤_, _<_}
 use mathlib.Core.Path.{_≡_, refl, ap, _∙_, sym, subst}
 use mathlib.Core.Logic.{_⊎_, inl, inr}
 use mathlib.Core.Bool.{Bool, true, false, _||_, _&&_}
@@ -10,14 +10,14 @@ use native.Mathlib.Omega.{arith}
 use lib.ListN.{length, getD, drop, length-drop}
 use lib.Seq.{drop-cons, drop-drop, getD-drop, drop-length}
 use lib.Dec.{eqb, ltb}
-use borrow.Author.Tests.{ne-eqb, eqb-true, eqb-false}
+use borrow.Author.Tests.{ne-eqb, eqb-true, eqb-false, ltb-true}
 use Rattle.turns.specs.Turn.{moved, Moves, stay, move, Turned}
-use Rattle.records.specs.declared.Scan.{Scan}
-use Rattle.records.specs.Bytes.{numberAt, low, high, marked}
-use Rattle.records.specs.Scans.{begin, stepBy, haltNumber}
+use Rattle.bytes_read.specs.Bytes.{numberAt, low, high, marked}
+use Rattle.bytes_read.specs.Scans.{Scan, begin, stepBy, haltNumber}
 use Rattle.records.specs.Records.{recordFault, recordNext, recordsEnd, recordsScan, numbersFrom, entryBytes, bytesFrom, namelessFrom}
-use Rattle.records.proofs.Faults.{marked-is, marked-yes, Passed, record-passed, record-fine, records-end, records-more}
-use Rattle.records.proofs.Scanning.{step-passed, step-inverse, Ended, Faulty, scan-comes, scan-ended}
+use Rattle.bytes_read.proofs.Marks.{marked-is, marked-yes}
+use Rattle.records.proofs.Faults.{Passed, record-passed, record-fine, records-end, records-more}
+use Rattle.bytes_read.proofs.Scanning.{step-passed, step-inverse, Ended, Faulty, scan-comes, scan-ended}
 use Rattle.retold.specs.Taken.{Bytes}
 
 -- ---- two bytes and a number
@@ -72,6 +72,15 @@ bytes-shift x y z w s k (suc n) =
     ∙ ap (λ (i : ℕ). entryBytes (getD s k 0) (getD s (k + 1) 0) (getD s (k + 2) 0) (getD l i 0) (bytesFrom l (k + 4 + 4) n)) d
     ∙ ap (entryBytes (getD s k 0) (getD s (k + 1) 0) (getD s (k + 2) 0) (getD s (k + 3) 0)) (bytes-shift x y z w s (k + 4) n)
 
+nameless-shift : (x y z w : ℕ) (s : List ℕ) (k n : ℕ) → namelessFrom (x ∷ y ∷ z ∷ w ∷ s) (k + 4) n ≡ namelessFrom s k n
+unfolding namelessFrom
+nameless-shift x y z w s k zero = refl
+nameless-shift x y z w s k (suc n) =
+    let a : k + 4 ≡ suc (suc (suc (suc k))) = omega arith in
+    let l : List ℕ = x ∷ y ∷ z ∷ w ∷ s in
+    ap (λ (i : ℕ). eqb (getD l i 0) 0 || namelessFrom l (k + 4 + 4) n) a
+    ∙ ap (λ (t : Bool). eqb (getD s k 0) 0 || t) (nameless-shift x y z w s (k + 4) n)
+
 -- ---- read, then written
 
 module _ (b : List ℕ) where
@@ -88,10 +97,12 @@ module _ (b : List ℕ) where
   record Stands (k : ℕ) (st to : Scan) : Type 0 where
     bytes-are : drop (st .at) b ≡ bytesFrom (numbersFrom b (st .at) k) 0 k ++ drop (to .at) b
     count-is : to .count ≡ st .count + k
+    named : namelessFrom (numbersFrom b (st .at) k) 0 k ≡ false
+    few : st .count ≤ 4096 → to .count ≤ 4096
 
   passed-stands : Bytes b → {k : ℕ} {st to : Scan} → Recorded k st to → Stands k st to
-  unfolding numbersFrom bytesFrom
-  passed-stands h stay = record { bytes-are = refl; count-is = omega arith }
+  unfolding numbersFrom bytesFrom namelessFrom
+  passed-stands h stay = record { bytes-are = refl; count-is = omega arith; named = refl; few = λ z. z }
   passed-stands h {st = st} {to = to} (move {k = k} {mid = mid} f q m) = go (stepped st mid q) (passed-stands h m)
     where
       go : Passed b st × (mid ≡ recordNext st) → Stands k mid to → Stands (suc k) st to
@@ -100,40 +111,54 @@ module _ (b : List ℕ) where
           record {
             bytes-are = record-bytes b h (st .at) (p .0 .whole) (p .0 .known)
                 ∙ ap (entryBytes (numberAt b (st .at + 2)) (numberAt b (st .at + 4)) (numberAt b (st .at + 6)) (numberAt b (st .at + 8)))
-                  (n .bytes-are ∙ ap (λ (r : List ℕ). r ++ drop (to .at) b)
-                  (sym (bytes-shift (numberAt b (st .at + 2)) (numberAt b (st .at + 4)) (numberAt b (st .at + 6)) (numberAt b (st .at + 8))
-                  (numbersFrom b (st .at + 10) k) 0 k)));
+                (n .bytes-are ∙ ap (λ (r : List ℕ). r ++ drop (to .at) b)
+                (sym (bytes-shift (numberAt b (st .at + 2)) (numberAt b (st .at + 4)) (numberAt b (st .at + 6)) (numberAt b (st .at + 8))
+                (numbersFrom b (st .at + 10) k) 0 k)));
             count-is = omega (arith, n .count-is);
+            named = ap (λ (t : Bool). t || namelessFrom (numbersFrom b (st .at) (suc k)) (0 + 4) k) (ne-eqb _ _ (p .0 .named))
+                ∙ nameless-shift (numberAt b (st .at + 2)) (numberAt b (st .at + 4)) (numberAt b (st .at + 6)) (numberAt b (st .at + 8)) (numbersFrom b (st .at + 10) k) 0 k
+                ∙ n .named;
+            few = λ z. n .few (omega (arith, p .0 .room));
           }
 
-  end-at : (st : Scan) → recordsEnd b st ≡ true → st .at ≡ length b
+  end-at : (st : Scan) → recordsEnd b st ≡ true → (st .at ≡ length b) × (0 < st .count)
   unfolding recordsEnd
-  end-at st = go (eqb (st .at) (length b)) refl
+  end-at st = go (eqb (st .at) (length b)) (ltb 0 (st .count)) refl refl
     where
-      go : (t : Bool) → eqb (st .at) (length b) ≡ t → (t && ltb 0 (st .count)) ≡ true → st .at ≡ length b
-      go true u h = eqb-true _ _ u
-      go false u h = let z : _≡_ {A = ℕ} 0 1 = cc in absurd (omega arith)
+      go : (t c : Bool) → eqb (st .at) (length b) ≡ t → ltb 0 (st .count) ≡ c → (t && c) ≡ true → (st .at ≡ length b) × (0 < st .count)
+      go true true u v h = (eqb-true _ _ u, ltb-true _ _ v)
+      go true false u v h = let z : _≡_ {A = ℕ} 0 1 = cc in absurd (omega arith)
+      go false c u v h = let z : _≡_ {A = ℕ} 0 1 = cc in absurd (omega arith)
 
-  -- records that are read without a refusal, written back, are the same bytes
-  pub records-read : Bytes b → haltNumber (recordsScan b .halt) ≡ 0
-      → bytesFrom (numbersFrom b 0 (recordsScan b .state .count)) 0 (recordsScan b .state .count) ≡ b
+  -- n records that are read without a refusal; written back, they are the same bytes
+  pub record Readable (n : ℕ) : Type 0 where
+    pub some : 1 ≤ n
+    pub few : n ≤ 4096
+    pub named : namelessFrom (numbersFrom b 0 n) 0 n ≡ false
+    pub same : bytesFrom (numbersFrom b 0 n) 0 n ≡ b
+
+  pub records-read : Bytes b → haltNumber (recordsScan b .halt) ≡ 0 → Readable (recordsScan b .state .count)
   records-read h z = go (scan-comes (recordsEnd b) (recordFault b) recordNext (length b) record-passes (begin 0))
     where
       to : Scan
       to = recordsScan b .state
 
       go : Ended (recordsEnd b) (recordFault b) recordNext (length b) record-passes (begin 0)
-          ⊎ Faulty (recordsEnd b) (recordFault b) recordNext (length b) record-passes (begin 0)
-          → bytesFrom (numbersFrom b 0 (recordsScan b .state .count)) 0 (recordsScan b .state .count) ≡ b
+          ⊎ Faulty (recordsEnd b) (recordFault b) recordNext (length b) record-passes (begin 0) → Readable (recordsScan b .state .count)
       go (inr e) = absurd (e .some (sym (e .number-is) ∙ z))
       go (inl e) =
           let s = passed-stands h (e .passed) in
+          let last = end-at to (e .done) in
           let k : e .many ≡ to .count = omega (arith, s .count-is) in
-          sym (s .bytes-are
-          ∙ ap (λ (p : ℕ). bytesFrom (numbersFrom b 0 (e .many)) 0 (e .many) ++ drop p b) (end-at to (e .done))
-          ∙ ap (λ (r : List ℕ). bytesFrom (numbersFrom b 0 (e .many)) 0 (e .many) ++ r) (drop-length b)
-          ∙ append-nil (bytesFrom (numbersFrom b 0 (e .many)) 0 (e .many))
-          ∙ ap (λ (x : ℕ). bytesFrom (numbersFrom b 0 x) 0 x) k)
+          subst Readable k (record {
+            some = omega (arith, k, last .1);
+            few = omega (arith, k, s .few (omega arith));
+            named = s .named;
+            same = sym (s .bytes-are
+                ∙ ap (λ (p : ℕ). bytesFrom (numbersFrom b 0 (e .many)) 0 (e .many) ++ drop p b) (last .0)
+                ∙ ap (λ (r : List ℕ). bytesFrom (numbersFrom b 0 (e .many)) 0 (e .many) ++ r) (drop-length b)
+                ∙ append-nil (bytesFrom (numbersFrom b 0 (e .many)) 0 (e .many)));
+          })
 
 -- ---- written, then read
 
@@ -231,7 +256,8 @@ records-written s n w l some few h =
     let b : List ℕ = bytesFrom s 0 n in
     let x = written-passes s b w n 0 0 0 (omega arith) refl h (omega arith) in
     let e = scan-ended (recordsEnd b) (recordFault b) recordNext (length b) (record-passes b) (x .passed)
-          (records-end b (x .to) (x .at-is) (omega (arith, x .count-is))) in
-    let c : recordsScan b .state .count ≡ n = ap (λ (t : Turned Scan). t .state .count) e ∙ omega (arith, x .count-is) in
-    (ap (λ (t : Turned Scan). haltNumber (t .halt)) e,
-    ap (numbersFrom b 0) c ∙ x .numbers ∙ entries-all s 0 n (omega arith))
+    (records-end b (x .to) (x .at-is) (omega (arith, x .count-is))) in
+    let c : recordsScan b .state .count ≡ n = ap (λ (t : Turned Scan). t .state .count) e ∙ omega (arith, x .count-is) in (
+      ap (λ (t : Turned Scan). haltNumber (t .halt)) e,
+      ap (numbersFrom b 0) c ∙ x .numbers ∙ entries-all s 0 n (omega arith),
+    )

@@ -2,29 +2,21 @@
 --   one-result, one-reading     two results that the promise allows are equal
 --   refused-writes-nothing      a refused call leaves the room as it was
 --   front-of-room               one that worked writes the result at the front, and nothing beyond it
---   ten-exactly                 where nothing else is refused, 10 exactly if the result is longer than the room
-use Prim.Native.Nat.{ℕ, zero, suc, _≤_, _<_}
-use mathlib.Core.Path.{_≡_, refl, ap, _∙_, sym, subst}
-use mathlib.Core.Logic.{_⊎_, inl, inr}
-use mathlib.Core.Bool.{Bool, true, false}
+--   ten-given, ten-only         where nothing else is refused, 10 exactly if the result is longer than the room
+use Prim.Native.Nat.{ℕ, _≤_, _<_}
+use mathlib.Core.Path.{_≡_, ap, _∙_, sym}
 use mathlib.Core.List.{List}
 use native.Mathlib.Omega.{arith}
 use native.Mathlib.Decide.{ℕ-discrete, decLe}
 use lib.ListN.{length}
-use lib.Dec.{eqb, leb}
-use Rattle.turns.specs.Pick.{pick}
-use Rattle.checking.specs.Stops.{Answered, answered, worked, refusedAs, Told}
-use Rattle.checking.specs.Whole.{wholeOf}
-use Rattle.checking.specs.declared.Kind.{Kind}
-use Rattle.checking.specs.declared.PreRank.{PreRank}
+use Rattle.checking.specs.Stops.{Answered, answered, worked, refusedAs}
 use Rattle.checking.specs.declared.Refusal.{Refusal}
 use Rattle.checking.specs.declared.Written.{Written}
 use Rattle.checked.specs.Apart.{answered-apart}
-use Rattle.records.specs.declared.TreeRead.{TreeRead}
-use Rattle.records.specs.Room.{Left, leftBy, frontWith, LeftPromise, RoomPromise}
-use Rattle.records.specs.TagLists.{ReadTold, readTold, ReadLeft}
-use Rattle.records.specs.TagsBack.{backBytes, backLeft, BackPromise}
-use Rattle.records.proofs.Rooms.{refused-is, short-is, written-is}
+use Rattle.tag_lists.specs.declared.TreeRead.{TreeRead}
+use Rattle.bytes_read.specs.Room.{Left, leftBy, frontWith, LeftPromise, RoomPromise}
+use Rattle.tag_lists.specs.TagLists.{ReadTold, readTold, ReadLeft}
+use Rattle.bytes_read.proofs.Rooms.{refused-is, short-is, written-is}
 
 -- ---- one result
 

@@ -1,54 +1,82 @@
--- Demand 2 of the reader of tag lists, as predicates over any call: ours meets them, and document 01's wrong programs do not.
---   TagsTwo k call           the call takes bytes exactly if they are the tag list of a tree of the kind
---   WritesTwo k call         and leaves the tree's signature at the front of the room
---   ours-tags, ours-writes   whatever keeps our promise meets them
+-- Demand 2 of the reader of tag lists, over any call: ours meets it, and document 01's wrong programs do not.
+--   Reads k b room w after   what demand 2 asks of one call: a tag list's tree in the room where it fits, 10 where it does not, and a refusal for other bytes
+--   TagsTwo k call after     every call is so
+--   ours-tags                whatever keeps our promise meets it
 --   shut-out-refusing, shut-out-fixed, shut-out-idle   refusing everything, one fixed answer, a call that does nothing
 use Prim.Native.Nat.{ℕ, zero, suc, _≤_, _<_}
-use mathlib.Core.Path.{_≡_, refl, ap, _∙_, sym}
-use mathlib.Core.Logic.{_⊎_, inl, inr}
+use mathlib.Core.Path.{_≡_, refl, ap, _∙_, sym, subst}
+use mathlib.Core.Bool.{true}
 use mathlib.Core.List.{List, [], _∷_}
 use native.Mathlib.Omega.{arith}
 use lib.ListN.{length, getD}
-use Rattle.trees.specs.Tree.{none, Tree, size, whole}
+use Rattle.trees.specs.Tree.{none, whole}
 use Rattle.trees.specs.Signature.{signature}
-use Rattle.trees.specs.Tags.{tagsOf, treeTags}
+use Rattle.trees.specs.Tags.{tagsOf}
 use Rattle.checking.specs.declared.Kind.{Kind}
 use Rattle.checking.specs.declared.Refusal.{Refusal}
 use Rattle.checking.specs.declared.Written.{Written}
-use Rattle.records.specs.Room.{frontWith}
-use Rattle.records.specs.TagLists.{tagBytes, TagsPromise}
-use Rattle.records.proofs.Emit.{tag-bytes-length}
+use Rattle.checking.specs.Kinds.{anyName, most}
+use Rattle.checked.specs.Apart.{answered-apart}
+use Rattle.bytes_read.specs.Room.{Left, frontWith}
+use Rattle.tag_lists.specs.TagLists.{tagBytes, treeScan, numbersIn, TagsPromise}
+use Rattle.tag_writing.proofs.Emit.{tag-bytes-length}
 use Rattle.retold.specs.Taken.{Bytes, Taken}
-use Rattle.retold.specs.Exact.{Fine, tags-accepted-exactly, tags-signature}
+use Rattle.retold.specs.Rooms.{Case, refused, short, written, which, ten-given, refused-writes-nothing}
+use Rattle.retold.specs.Ends.{never-ten}
+use Rattle.retold.specs.Exact.{number, fine-taken, taken-fine, tags-signature}
 
--- taken exactly if a tree has them
-pub record Agrees (k : Kind) (b : List ℕ) (w : Written) : Type 0 where
-  pub sound : Fine w → Taken k b
-  pub complete : Taken k b → Fine w
+-- the refusal of a room that is too small
+abbrev pub ten : Refusal
+ten = record { number = 10; entry = record { 0 = 0 } }
 
-abbrev pub TagsTwo : Kind → (List ℕ → Written) → Type 0
-TagsTwo k call = (b : List ℕ) → Bytes b → Agrees k b (call b)
+-- "Tag lists become signatures": the tree's signature where the room is long enough, 10 where it is not; other bytes are refused, and not for the room
+pub record Reads (k : Kind) (b room : List ℕ) (w : Written) (after : List ℕ) : Type 0 where
+  pub fits : (y : Taken k b) → length (signature (y .tree)) ≤ length room
+      → (w ≡ Written.Length (length (signature (y .tree)))) × (after ≡ frontWith (signature (y .tree)) room)
+  pub long : (y : Taken k b) → length room < length (signature (y .tree)) → (w ≡ Written.Refused ten) × (after ≡ room)
+  pub other : (Taken k b → ⊥) → (r : Refusal) × (w ≡ Written.Refused r) × (r .number ≡ 10 → ⊥) × (after ≡ room)
 
--- and read as that tree's signature
-abbrev pub WritesTwo : Kind → (List ℕ → List ℕ → List ℕ) → Type 0
-WritesTwo k call = (b room : List ℕ) (y : Taken k b) → length (signature (y .tree)) ≤ length room → call b room ≡ frontWith (signature (y .tree)) room
+-- demand 2 over any call, by what it answers and what it leaves
+abbrev pub TagsTwo : Kind → (List ℕ → List ℕ → Written) → (List ℕ → List ℕ → List ℕ) → Type 0
+TagsTwo k call after = (b room : List ℕ) → Bytes b → Reads k b room (call b room) (after b room)
 
--- ---- ours meets them
+-- ---- ours meets it
 
-pub ours-tags : (k : Kind) (room : List ℕ) (call : List ℕ → Written) (after : List ℕ → List ℕ)
-    → ((b : List ℕ) → TagsPromise k b room (call b) (after b)) → TagsTwo k call
-ours-tags k room call after p b h =
-    let x = tags-accepted-exactly k b room (call b) (after b) (p b) h in record { sound = x .sound; complete = x .complete }
+module _ (k : Kind) (b room : List ℕ) (w : Written) (after : List ℕ) (h : Bytes b) (p : TagsPromise k b room w after) where
+  abbrev result : List ℕ
+  result = numbersIn b 0 (treeScan true (anyName k) (most k) b 0 .state .count)
 
-pub ours-writes : (k : Kind) (call : List ℕ → List ℕ → Written) (after : List ℕ → List ℕ → List ℕ)
-    → ((b room : List ℕ) → TagsPromise k b room (call b room) (after b room)) → WritesTwo k after
-ours-writes k call after p b room y l = tags-signature k b room (call b room) (after b room) (p b room) y l .1
+  is-long : (y : Taken k b) → length room < length (signature (y .tree)) → (w ≡ Written.Refused ten) × (after ≡ room)
+  is-long y l =
+      let f = taken-fine k b y in
+      let q = ten-given (number k b) 0 result room w after p (f .0) (subst (λ (x : List ℕ). length room < length x) (sym (f .1)) l) in
+      (q, refused-writes-nothing (number k b) 0 result room w after p ten q)
+
+  is-other : (Taken k b → ⊥) → (r : Refusal) × (w ≡ Written.Refused r) × (r .number ≡ 10 → ⊥) × (after ≡ room)
+  is-other n = go (which (number k b) 0 result room)
+    where
+      go : Case (number k b) 0 result room → (r : Refusal) × (w ≡ Written.Refused r) × (r .number ≡ 10 → ⊥) × (after ≡ room)
+      go (refused z e) =
+          let r : Refusal = record { number = number k b; entry = record { 0 = 0 } } in
+          (r, answered-apart w (Written.Refused r) (p .told ∙ ap (λ (x : Left). x .answer) e), never-ten true (anyName k) (most k) b 0, p .left ∙ ap (λ (x : Left). x .room) e)
+      go (short z l e) = absurd (n (fine-taken k b h z .0))
+      go (written z l e) = absurd (n (fine-taken k b h z .0))
+
+  pub promised-reads : Reads k b room w after
+  promised-reads = record { fits = tags-signature k b room w after p; long = is-long; other = is-other }
+
+pub ours-tags : (k : Kind) (call : List ℕ → List ℕ → Written) (after : List ℕ → List ℕ → List ℕ)
+    → ((b room : List ℕ) → TagsPromise k b room (call b room) (after b room)) → TagsTwo k call after
+ours-tags k call after p b room h = promised-reads k b room (call b room) (after b room) h (p b room)
 
 -- ---- the wrong programs do not
 
--- one element named 7, as document 01's starred entry 7,1,2,0
+-- one element named 7, as document 01's starred entry 7,1,2,0, and a room that is just long enough
 abbrev one : List ℕ
 one = 79 ∷ 80 ∷ 7 ∷ 0 ∷ 67 ∷ 76 ∷ []
+
+abbrev zeros : List ℕ
+zeros = 0 ∷ 0 ∷ 0 ∷ 0 ∷ []
 
 one-bytes : Bytes one
 one-bytes zero = omega arith
@@ -67,21 +95,30 @@ one-taken = record {
   is = refl;
 }
 
-pub shut-out-refusing : (r : Refusal) → (r .number ≡ 10 → ⊥) → TagsTwo Kind.Data (λ b. Written.Refused r) → ⊥
-shut-out-refusing r n p = go (p one one-bytes .complete one-taken)
-  where
-    go : Fine (Written.Refused r) → ⊥
-    go (inl q) = let e = q .1 in let z : _≡_ {A = ℕ} 0 1 = cc in omega arith
-    go (inr q) = n (cc)
+-- nothing is no tag list
+nothing-taken : Taken Kind.Data [] → ⊥
+nothing-taken y = omega (arith, ap length (y .is), tag-bytes-length (whole (y .tree)))
 
-pub shut-out-fixed : (l : ℕ) → TagsTwo Kind.Data (λ b. Written.Length l) → ⊥
-shut-out-fixed l p =
-    let y = p [] (λ i. omega arith) .sound (inl (l, refl)) in
-    omega (arith, ap length (y .is), tag-bytes-length (whole (y .tree)))
+apart : (l : ℕ) (r : Refusal) → Written.Length l ≡ Written.Refused r → ⊥
+apart l r e = let z : _≡_ {A = ℕ} 0 1 = cc in omega arith
 
-pub shut-out-idle : WritesTwo Kind.Data (λ b room. room) → ⊥
+-- refusing everything, each time as it likes, 10 too
+pub shut-out-refusing : (x : List ℕ → List ℕ → Refusal) (after : List ℕ → List ℕ → List ℕ) → TagsTwo Kind.Data (λ b room. Written.Refused (x b room)) after → ⊥
 unfolding one-taken
-shut-out-idle p =
-    let q = p one (0 ∷ 0 ∷ 0 ∷ 0 ∷ []) one-taken (omega arith) in
+shut-out-refusing x after p = apart _ (x one zeros) (sym (p one zeros one-bytes .fits one-taken (omega arith) .0))
+
+-- one fixed answer, whatever it leaves
+pub shut-out-fixed : (w : Written) (after : List ℕ → List ℕ → List ℕ) → TagsTwo Kind.Data (λ b room. w) after → ⊥
+unfolding one-taken
+shut-out-fixed w after p =
+    let e = p one zeros one-bytes .fits one-taken (omega arith) .0 in
+    let q = p [] zeros (λ i. omega arith) .other nothing-taken in
+    apart _ (q .0) (sym e ∙ q .1)
+
+-- a call that does nothing to the room, whatever it answers
+pub shut-out-idle : (call : List ℕ → List ℕ → Written) → TagsTwo Kind.Data call (λ b room. room) → ⊥
+unfolding one-taken
+shut-out-idle call p =
+    let q = p one zeros one-bytes .fits one-taken (omega arith) .1 in
     let z : _≡_ {A = ℕ} 0 7 = ap (λ (l : List ℕ). getD l 0 0) q in
     omega arith

@@ -2,29 +2,26 @@
 --   passed-names       the names of tags that were passed are allowed
 --   passed-bytes       the tags that were passed are the bytes that stand there
 --   Read, scan-sound   what a scan that refused nothing has read
-use Prim.Native.Nat.{ℕ, zero, suc, _+_, _-_, _*_, _/_, _%_, _≤_, _<_}
+use Prim.Native.Nat.{ℕ, suc, _+_, _-_, _*_, _≤_, _<_}
 use mathlib.Core.Path.{_≡_, refl, ap, _∙_, sym, subst}
 use mathlib.Core.Logic.{_⊎_, inl, inr}
-use mathlib.Core.Bool.{Bool, true, false, not, _&&_, false≢true}
-use mathlib.Core.List.{List, [], _∷_, _++_}
+use mathlib.Core.Bool.{Bool, true, false}
+use mathlib.Core.List.{List, _∷_, _++_}
 use native.Mathlib.Omega.{arith}
-use native.Mathlib.Numerals.{add-one}
 use lib.ListN.{length, getD, drop}
-use lib.Seq.{drop-cons, drop-length}
-use lib.Dec.{eqb}
+use lib.Seq.{drop-cons}
 use borrow.Author.Tests.{eqb-false}
-use Rattle.turns.specs.Turn.{moved, Moves, stay, move}
+use Rattle.turns.specs.Turn.{stay, move}
 use Rattle.trees.specs.Tree.{Tree, size, whole, NotZero, Allowed, Grown}
 use Rattle.trees.specs.Signature.{signature}
 use Rattle.trees.specs.Tags.{Tag, opens, closes, treeTags}
-use Rattle.records.specs.declared.Scan.{Scan}
-use Rattle.records.specs.Bytes.{numberAt, low, high}
-use Rattle.records.specs.Scans.{begin, stepBy, haltNumber}
-use Rattle.records.specs.TagLists.{opening, closing, namelessAt, tagFault, tagNext, treeEnd, treeScan, tagBytes, tagsFrom, numbersIn}
-use Rattle.records.proofs.Faults.{marked-is}
-use Rattle.records.proofs.TagFaults.{Opened, Closed}
-use Rattle.records.proofs.Build.{tags-open, tags-close, tags-none, whole-numbers}
-use Rattle.records.proofs.Judging.{Tagged, stepped, Whole, read-whole}
+use Rattle.bytes_read.specs.Bytes.{numberAt, low, high}
+use Rattle.bytes_read.specs.Scans.{Scan, haltNumber}
+use Rattle.tag_lists.specs.TagLists.{opening, closing, namelessAt, treeScan, tagBytes, tagsFrom, numbersIn}
+use Rattle.bytes_read.proofs.Marks.{marked-is}
+use Rattle.tag_lists.proofs.TagFaults.{Opened, Closed}
+use Rattle.tag_lists.proofs.Build.{tags-open, tags-close, tags-none, whole-numbers}
+use Rattle.tag_lists.proofs.Judging.{Tagged, stepped, read-whole}
 use Rattle.retold.specs.Taken.{Bytes}
 use Rattle.retold.specs.Names.{TagNames, names-row}
 
@@ -75,9 +72,9 @@ module _ (all any : Bool) (most : ℕ) (b : List ℕ) (bytes : Bytes b) where
       two b p (omega arith)
       ∙ ap (λ (x : ℕ). x ∷ getD b (p + 1) 0 ∷ drop (p + 2) b) (m .0) ∙ ap (λ (x : ℕ). 79 ∷ x ∷ drop (p + 2) b) (m .1)
       ∙ ap (λ (r : List ℕ). 79 ∷ 80 ∷ r) (two b (p + 2) (omega arith)
-        ∙ ap (λ (x : ℕ). x ∷ getD b (p + 2 + 1) 0 ∷ drop (p + 2 + 2) b) (sym (number-low _ _ (bytes (p + 2)) (bytes (p + 2 + 1))))
-        ∙ ap (λ (x : ℕ). low (numberAt b (p + 2)) ∷ x ∷ drop (p + 2 + 2) b) (sym (number-high _ _ (bytes (p + 2)) (bytes (p + 2 + 1))))
-        ∙ ap (λ (r : List ℕ). low (numberAt b (p + 2)) ∷ high (numberAt b (p + 2)) ∷ r) (ap (λ (x : ℕ). drop x b) q ∙ e))
+      ∙ ap (λ (x : ℕ). x ∷ getD b (p + 2 + 1) 0 ∷ drop (p + 2 + 2) b) (sym (number-low _ _ (bytes (p + 2)) (bytes (p + 2 + 1))))
+      ∙ ap (λ (x : ℕ). low (numberAt b (p + 2)) ∷ x ∷ drop (p + 2 + 2) b) (sym (number-high _ _ (bytes (p + 2)) (bytes (p + 2 + 1))))
+      ∙ ap (λ (r : List ℕ). low (numberAt b (p + 2)) ∷ high (numberAt b (p + 2)) ∷ r) (ap (λ (x : ℕ). drop x b) q ∙ e))
 
   close-bytes : (p : ℕ) (rest : List ℕ) → closing b p ≡ true → p + 2 ≤ length b → drop (p + 2) b ≡ rest → drop p b ≡ 67 ∷ 76 ∷ rest
   close-bytes p rest h l e =
@@ -97,11 +94,11 @@ module _ (all any : Bool) (most : ℕ) (b : List ℕ) (bytes : Bytes b) where
           → drop (st .at) b ≡ tagBytes (tagsFrom b (suc k) (st .at)) ++ drop (to .at) b
       go (inl o) ih =
           open-bytes (st .at) _ (o .0 .opens-here) (o .0 .body)
-            (subst (λ (s : Scan). drop (s .at) b ≡ tagBytes (tagsFrom b k (s .at)) ++ drop (to .at) b) (o .1) ih)
+          (subst (λ (s : Scan). drop (s .at) b ≡ tagBytes (tagsFrom b k (s .at)) ++ drop (to .at) b) (o .1) ih)
           ∙ ap (λ (l : List Tag). tagBytes l ++ drop (to .at) b) (sym (tags-open b k (st .at) (o .0 .opens-here)))
       go (inr c) ih =
           close-bytes (st .at) _ (c .0 .closes-here) (c .0 .mark)
-            (subst (λ (s : Scan). drop (s .at) b ≡ tagBytes (tagsFrom b k (s .at)) ++ drop (to .at) b) (c .1) ih)
+          (subst (λ (s : Scan). drop (s .at) b ≡ tagBytes (tagsFrom b k (s .at)) ++ drop (to .at) b) (c .1) ih)
           ∙ ap (λ (l : List Tag). tagBytes l ++ drop (to .at) b) (sym (tags-close b k (st .at) (c .0 .opens-not)))
 
   -- what a scan that refused nothing has read

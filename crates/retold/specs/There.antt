@@ -3,36 +3,33 @@
 --   back-written             so its tag list is written
 --   there-and-back           bytes read as numbers and written back are the same bytes
 --   back-and-there           numbers written as bytes and read back are the same numbers
-use Prim.Native.Nat.{ℕ, _+_, _*_, _≤_, _<_}
+use Prim.Native.Nat.{ℕ, _+_, _*_, _≤_}
 use mathlib.Core.Path.{_≡_, refl, ap, _∙_, sym, subst}
-use mathlib.Core.Logic.{_⊎_, inl, inr}
-use mathlib.Core.List.{List, _++_}
+use mathlib.Core.Logic.{inl, inr}
+use mathlib.Core.List.{List}
 use native.Mathlib.Omega.{arith}
-use lib.ListN.{length, drop}
-use lib.Dec.{eqb}
+use lib.ListN.{length}
 use borrow.Author.Tests.{eq-eqb}
-use Rattle.turns.specs.Turn.{Halt}
 use Rattle.turns.specs.Chains.{one}
-use Rattle.trees.specs.Tree.{Tree, size, whole, Grown}
+use Rattle.trees.specs.Tree.{Tree}
 use Rattle.trees.specs.Signature.{signature}
 use Rattle.trees.specs.Tags.{treeTags}
-use Rattle.checking.specs.Kinds.{anyName, most}
+use Rattle.checking.specs.Kinds.{most}
 use Rattle.checking.specs.Rule.{fresh}
 use Rattle.checking.specs.Stops.{Told, told}
 use Rattle.checking.specs.Turn.{turnOf}
 use Rattle.checking.specs.Whole.{wholeOf}
 use Rattle.checking.specs.declared.Kind.{Kind}
-use Rattle.checking.specs.declared.Stop.{Stop}
 use Rattle.checking.specs.declared.Written.{Written}
-use Rattle.checked.specs.Yields.{Yields, entries}
-use Rattle.checked.specs.Apart.{stopOf, told-stop}
+use Rattle.checked.specs.Yields.{Yields}
+use Rattle.checked.specs.Apart.{told-stop}
 use Rattle.checked.specs.Accepted.{Tree-of, tree-of, Came, chain-complete}
 use Rattle.checked.specs.Wholly.{handed, handed-is}
-use Rattle.records.specs.Room.{Left, leftBy, frontWith, LeftPromise, RoomPromise}
-use Rattle.records.specs.TagLists.{tagBytes, TagsPromise}
-use Rattle.records.specs.TagsBack.{treeIn, backBytes, backLeft, BackPromise}
-use Rattle.records.proofs.Emit.{tree-in}
-use Rattle.records.proofs.Back.{left-as}
+use Rattle.bytes_read.specs.Room.{leftBy, frontWith}
+use Rattle.tag_lists.specs.TagLists.{tagBytes, TagsPromise}
+use Rattle.tag_writing.specs.TagsBack.{backBytes, backLeft, BackPromise}
+use Rattle.tag_writing.proofs.Emit.{tree-in}
+use Rattle.tag_writing.proofs.Back.{left-as}
 use Rattle.retold.specs.Rooms.{fits-written}
 use Rattle.retold.specs.Taken.{Taken}
 use Rattle.retold.specs.Exact.{tags-signature}
@@ -48,7 +45,7 @@ yields-accepted k s y = go (chain-complete k s y (one (handed-is (turnOf k s (2 
     go (inl q) = ap (λ (x : Told). x .reason) (sym (told-stop (turnOf k s (2 * most k + 1) fresh .halt)) ∙ ap told (q .stop))
     go (inr q) = absurd (omega (arith, q .short, t .count, y .grown .small))
 
-accepted-left : (k : Kind) (s room : List ℕ) → wholeOf k s .reason ≡ 1 → leftBy 0 0 (backBytes s) room ≡ backLeft k s room
+pub accepted-left : (k : Kind) (s room : List ℕ) → wholeOf k s .reason ≡ 1 → leftBy 0 0 (backBytes s) room ≡ backLeft k s room
 unfolding backLeft
 accepted-left k s room h = simp (eq-eqb _ _ h)
 
@@ -80,5 +77,5 @@ pub there-and-back : (k : Kind) (b : List ℕ) (y : Taken k b) → (room : List 
 there-and-back k b y room w after p l =
     let same : backBytes (signature (y .tree)) ≡ b = ap (λ (t : Tree). tagBytes (treeTags t)) (tree-in (signature (y .tree)) (y .tree) refl) ∙ sym (y .is) in
     let r = back-written k (signature (y .tree)) (record { tree = y .tree; grown = y .grown; is = refl }) room w after p
-          (subst (λ (x : List ℕ). length x ≤ length room) (sym same) l) in
+    (subst (λ (x : List ℕ). length x ≤ length room) (sym same) l) in
     (r .0 ∙ ap (λ (x : List ℕ). Written.Length (length x)) same, r .1 ∙ ap (λ (x : List ℕ). frontWith x room) same)

@@ -1,20 +1,14 @@
+-- What is left of the numbers is stored behind what was; at the end all of them stand at the front of the room.
 use native.Mathlib.Nat.{sub-zero}
-use mathlib.Core.Path.{_≡_, refl, ap, sym, _∙_}
-use mathlib.Core.List.{List, [], _∷_}
-use Prim.Native.Nat.{ℕ, _≤_, _-_, _*_, _+_}
-use lib.ListN.{length}
-use lib.Seq.{sets}
+use mathlib.Core.Path.{ap}
+use Prim.Native.Nat.{_≤_, _-_, _*_}
 use Rattle.records.specs.Records.{numbersFrom}
-use Rattle.records.proofs.Filling.{numbers-length, numbers-more, numbers-none, numbers-stored}
-use Rattle.records.proofs.Rooms.{Storing, storing-start, storing-more, storing-end}
+use Rattle.records.proofs.Filling.{numbers-length, numbers-none, numbers-stored}
+use Rattle.bytes_read.proofs.Rooms.{Storing, storing-start, storing-end}
 use native.Mathlib.Omega.{arith}
 use borrow.Author.Needs.{needs}
 use Rattle.records.proofs.fill_numbers.Statement.{statement}
 use Rattle.records.proofs.fill_numbers.Tie as tie
-use Rattle.records.proofs.fill_numbers.Reads as reads
-use Rattle.records.proofs.fill_numbers.Lts as lts
-use Rattle.records.proofs.number_at.Reads as number-at-reads
-use Rattle.records.proofs.put_entry.Reads as put-entry-reads
 
 abbrev Inv-loop : tie.InvT-loop
 Inv-loop bytes size room₀ i₀ room i = Storing room₀ (numbersFrom bytes 0 size) room (4 * i) (numbersFrom bytes (10 * i) (size - i)) × (i ≤ size)
@@ -22,72 +16,56 @@ Inv-loop bytes size room₀ i₀ room i = Storing room₀ (numbersFrom bytes 0 s
 abbrev μ-loop : tie.MeasureT-loop
 μ-loop bytes size room₀ i₀ room i = size - i
 
--- src/lib.rt:164:5
 loop-holds : tie.Need-loop-holds Inv-loop μ-loop
 loop-holds c = (storing-start _ _ _ (ap (numbersFrom _ 0) (sub-zero _)), omega arith)
 
--- src/lib.rt:165:18
 mul-at : tie.Need-mul-at Inv-loop μ-loop
 mul-at c = search needs
 
--- src/lib.rt:166:37
 add-number-at : tie.Need-add-number-at Inv-loop μ-loop
 add-number-at c = search needs
 
--- src/lib.rt:166:13
 number-at-requires : tie.Need-number-at-requires Inv-loop μ-loop
 number-at-requires c κs = search needs
 
--- src/lib.rt:167:37
 add-number-at-2 : tie.Need-add-number-at-2 Inv-loop μ-loop
 add-number-at-2 c = search needs
 
--- src/lib.rt:167:13
 number-at-requires-2 : tie.Need-number-at-requires-2 Inv-loop μ-loop
 number-at-requires-2 c κs = search needs
 
--- src/lib.rt:168:35
 add-number-at-3 : tie.Need-add-number-at-3 Inv-loop μ-loop
 add-number-at-3 c = search needs
 
--- src/lib.rt:168:13
 number-at-requires-3 : tie.Need-number-at-requires-3 Inv-loop μ-loop
 number-at-requires-3 c κs = search needs
 
--- src/lib.rt:169:35
 add-number-at-4 : tie.Need-add-number-at-4 Inv-loop μ-loop
 add-number-at-4 c = search needs
 
--- src/lib.rt:169:13
 number-at-requires-4 : tie.Need-number-at-requires-4 Inv-loop μ-loop
 number-at-requires-4 c κs = search needs
 
--- src/lib.rt:170:25
 mul-put-entry : tie.Need-mul-put-entry Inv-loop μ-loop
 mul-put-entry c = search needs
 
--- src/lib.rt:170:9
 put-entry-requires : tie.Need-put-entry-requires Inv-loop μ-loop
 put-entry-requires c κs = omega (arith, c .before .before .before .before .before .before .loop .inv .0 .long)
 
--- src/lib.rt:171:9
 add-i : tie.Need-add-i Inv-loop μ-loop
 add-i c = search needs
 
--- src/lib.rt:164:5
 loop-less : tie.Need-loop-less Inv-loop μ-loop
 loop-less c = search needs
 
--- src/lib.rt:164:5
 loop-again : tie.Need-loop-again Inv-loop μ-loop
-loop-again c =     let l = c .before .before .before .before .before .before .before .before .before .loop in
+loop-again c =
+    let l = c .before .before .before .before .before .before .before .before .before .loop in
     (numbers-stored _ _ _ _ _ _ _ _ _ _ (l .inv .0) (omega arith) (c .before .before .put-entry .ensures) (cc) (cc) (cc) (cc), omega arith)
 
--- src/lib.rt:159:1
 same-length : tie.Need-same-length Inv-loop μ-loop
 same-length c = c .before .loop .inv .0 .long
 
--- src/lib.rt:159:1
 returns : tie.Need-returns Inv-loop μ-loop
 returns c = storing-end _ _ _ _ _ (c .before .loop .inv .0) (numbers-none _ _ _ (omega arith)) (omega (arith, numbers-length (c .before .before .before .before .args .bytes .now) 0 (c .before .before .before .before .args .size)))
 

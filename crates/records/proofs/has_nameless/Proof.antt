@@ -1,3 +1,4 @@
+-- Whether a name is 0 from the start on is whether one is from here on; the first one that is 0 settles it.
 use mathlib.Core.Path.{_≡_, ap, sym, _∙_}
 use Prim.Native.Nat.{_≤_, _-_, _*_}
 use native.Mathlib.Nat.{sub-zero}
@@ -7,8 +8,6 @@ use native.Mathlib.Omega.{arith}
 use borrow.Author.Needs.{needs}
 use Rattle.records.proofs.has_nameless.Statement.{statement}
 use Rattle.records.proofs.has_nameless.Tie as tie
-use Rattle.records.proofs.has_nameless.Reads as reads
-use Rattle.records.proofs.has_nameless.Lts as lts
 
 abbrev Inv-loop : tie.InvT-loop
 Inv-loop sig size i₀ i = (namelessFrom sig 0 size ≡ namelessFrom sig (4 * i) (size - i)) × (i ≤ size)
@@ -16,39 +15,30 @@ Inv-loop sig size i₀ i = (namelessFrom sig 0 size ≡ namelessFrom sig (4 * i)
 abbrev μ-loop : tie.MeasureT-loop
 μ-loop sig size i₀ i = size - i
 
--- src/lib.rt:220:5
 loop-holds : tie.Need-loop-holds Inv-loop μ-loop
 loop-holds c = (ap (namelessFrom _ 0) (sym (sub-zero _)), omega arith)
 
--- src/lib.rt:221:16
 mul-if1 : tie.Need-mul-if1 Inv-loop μ-loop
 mul-if1 c = search needs
 
--- src/lib.rt:221:12
 mul-if1-2 : tie.Need-mul-if1-2 Inv-loop μ-loop
 mul-if1-2 c = search needs
 
--- src/lib.rt:221:12
 shared-slice-read-if1 : tie.Need-shared-slice-read-if1 Inv-loop μ-loop
 shared-slice-read-if1 c = search needs
 
--- src/lib.rt:222:13
 returns : tie.Need-returns Inv-loop μ-loop
 returns c = sym (c .before .before .before .loop .inv .0 ∙ nameless-here _ _ _ (omega arith) (omega arith))
 
--- src/lib.rt:224:9
 add-i : tie.Need-add-i Inv-loop μ-loop
 add-i c = search needs
 
--- src/lib.rt:220:5
 loop-less : tie.Need-loop-less Inv-loop μ-loop
 loop-less c = omega arith
 
--- src/lib.rt:220:5
 loop-again : tie.Need-loop-again Inv-loop μ-loop
 loop-again c = (c .before .before .before .loop .inv .0 ∙ nameless-later _ _ _ (omega arith) (omega arith), omega arith)
 
--- src/lib.rt:215:1
 returns-2 : tie.Need-returns-2 Inv-loop μ-loop
 returns-2 c = sym (c .before .loop .inv .0 ∙ nameless-none _ _ _ (omega arith))
 

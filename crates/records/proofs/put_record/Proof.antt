@@ -1,126 +1,96 @@
+-- Ten stores.
 use lib.ListN.{length-set}
-use Rattle.records.specs.Bytes.{low, high}
-use Rattle.records.proofs.Rooms.{sets-ten}
+use Rattle.bytes_read.specs.Bytes.{low, high}
+use Rattle.bytes_read.proofs.Rooms.{sets-ten}
 use native.Mathlib.Omega.{arith}
 use borrow.Author.Needs.{needs}
 use Rattle.records.proofs.put_record.Statement.{statement}
 use Rattle.records.proofs.put_record.Tie as tie
-use Rattle.records.proofs.put_record.Reads as reads
-use Rattle.records.proofs.put_record.Lts as lts
 
--- src/lib.rt:197:5
 slice-write-room : tie.Need-slice-write-room
 slice-write-room c = search needs
 
--- src/lib.rt:198:10
 add-room : tie.Need-add-room
 add-room c = search needs
 
--- src/lib.rt:198:5
 slice-write-room-2 : tie.Need-slice-write-room-2
 slice-write-room-2 c = simp length-set (omega arith)
 
--- src/lib.rt:199:20
 cast-room : tie.Need-cast-room
 cast-room c = search needs
 
--- src/lib.rt:199:10
 add-room-2 : tie.Need-add-room-2
 add-room-2 c = search needs
 
--- src/lib.rt:199:5
 slice-write-room-3 : tie.Need-slice-write-room-3
 slice-write-room-3 c = simp length-set (omega arith)
 
--- src/lib.rt:200:20
 cast-room-2 : tie.Need-cast-room-2
 cast-room-2 c = search needs
 
--- src/lib.rt:200:10
 add-room-3 : tie.Need-add-room-3
 add-room-3 c = search needs
 
--- src/lib.rt:200:5
 slice-write-room-4 : tie.Need-slice-write-room-4
 slice-write-room-4 c = simp length-set (omega arith)
 
--- src/lib.rt:201:20
 cast-room-3 : tie.Need-cast-room-3
 cast-room-3 c = search needs
 
--- src/lib.rt:201:10
 add-room-4 : tie.Need-add-room-4
 add-room-4 c = search needs
 
--- src/lib.rt:201:5
 slice-write-room-5 : tie.Need-slice-write-room-5
 slice-write-room-5 c = simp length-set (omega arith)
 
--- src/lib.rt:202:20
 cast-room-4 : tie.Need-cast-room-4
 cast-room-4 c = search needs
 
--- src/lib.rt:202:10
 add-room-5 : tie.Need-add-room-5
 add-room-5 c = search needs
 
--- src/lib.rt:202:5
 slice-write-room-6 : tie.Need-slice-write-room-6
 slice-write-room-6 c = simp length-set (omega arith)
 
--- src/lib.rt:203:20
 cast-room-5 : tie.Need-cast-room-5
 cast-room-5 c = search needs
 
--- src/lib.rt:203:10
 add-room-6 : tie.Need-add-room-6
 add-room-6 c = search needs
 
--- src/lib.rt:203:5
 slice-write-room-7 : tie.Need-slice-write-room-7
 slice-write-room-7 c = simp length-set (omega arith)
 
--- src/lib.rt:204:20
 cast-room-6 : tie.Need-cast-room-6
 cast-room-6 c = search needs
 
--- src/lib.rt:204:10
 add-room-7 : tie.Need-add-room-7
 add-room-7 c = search needs
 
--- src/lib.rt:204:5
 slice-write-room-8 : tie.Need-slice-write-room-8
 slice-write-room-8 c = simp length-set (omega arith)
 
--- src/lib.rt:205:20
 cast-room-7 : tie.Need-cast-room-7
 cast-room-7 c = search needs
 
--- src/lib.rt:205:10
 add-room-8 : tie.Need-add-room-8
 add-room-8 c = search needs
 
--- src/lib.rt:205:5
 slice-write-room-9 : tie.Need-slice-write-room-9
 slice-write-room-9 c = simp length-set (omega arith)
 
--- src/lib.rt:206:20
 cast-room-8 : tie.Need-cast-room-8
 cast-room-8 c = search needs
 
--- src/lib.rt:206:10
 add-room-9 : tie.Need-add-room-9
 add-room-9 c = search needs
 
--- src/lib.rt:206:5
 slice-write-room-10 : tie.Need-slice-write-room-10
 slice-write-room-10 c = simp length-set (omega arith)
 
--- src/lib.rt:193:1
 same-length : tie.Need-same-length
 same-length c = simp length-set
 
--- src/lib.rt:193:1
 returns : tie.Need-returns
 returns c = let a = c .args in sets-ten (a .room .now) (a .at) 83 69 (low (a .name)) (high (a .name)) (low (a .post)) (high (a .post)) (low (a .ff)) (high (a .ff)) (low (a .fa)) (high (a .fa))
 

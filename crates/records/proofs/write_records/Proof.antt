@@ -1,54 +1,43 @@
+-- The judging pass says which of the three cases it is: refused, no room, or written.
 use mathlib.Core.Path.{refl}
 use Prim.Native.Nat.{_/_}
 use lib.ListN.{length}
 use Rattle.records.proofs.Filling.{bytes-length}
-use Rattle.records.proofs.Rooms.{refused-with, short-with, written-with}
+use Rattle.bytes_read.proofs.Rooms.{refused-with, short-with, written-with}
 use native.Mathlib.Omega.{arith}
 use borrow.Author.Needs.{needs}
 use Rattle.records.proofs.write_records.Statement.{statement}
 use Rattle.records.proofs.write_records.Tie as tie
-use Rattle.records.proofs.write_records.Reads as reads
-use Rattle.records.proofs.write_records.Lts as lts
-use Rattle.records.proofs.fill_records.Reads as fill-records-reads
-use Rattle.records.proofs.refused.Reads as refused-reads
-use Rattle.records.proofs.write_fault.Reads as write-fault-reads
 
--- src/lib.rt:260:9
 write-fault-requires : tie.Need-write-fault-requires
 write-fault-requires c κs = search needs
 
--- src/lib.rt:262:9
 refused-requires : tie.Need-refused-requires
 refused-requires c κs = search needs
 
--- src/lib.rt:262:9
 returns : tie.Need-returns
 returns c = refused-with _ _ _ _ _ (c .before .before .write-fault .ensures) (c .refused .ensures) (omega arith)
 
--- src/lib.rt:266:9
 refused-requires-2 : tie.Need-refused-requires-2
 refused-requires-2 c κs = search needs
 
--- src/lib.rt:266:9
 returns-2 : tie.Need-returns-2
-returns-2 c =     let s = c .before .before .before .before .before .before .args .sig .now in
+returns-2 c =
+    let s = c .before .before .before .before .before .before .args .sig .now in
     short-with _ _ _ _ _ (c .before .before .before .write-fault .ensures) (c .refused2 .ensures) (omega arith) (omega (arith, bytes-length s 0 (length s / 4)))
 
--- src/lib.rt:268:5
 fill-records-requires : tie.Need-fill-records-requires
 fill-records-requires c κs = search needs
 
--- src/lib.rt:269:21
 mul-t6 : tie.Need-mul-t6
 mul-t6 c = search needs
 
--- src/lib.rt:257:1
 same-length : tie.Need-same-length
 same-length c = search needs
 
--- src/lib.rt:257:1
 returns-3 : tie.Need-returns-3
-returns-3 c =     let s = c .before .before .before .before .before .before .before .before .before .args .sig .now in
+returns-3 c =
+    let s = c .before .before .before .before .before .before .before .before .before .args .sig .now in
     let k = bytes-length s 0 (length s / 4) in
     written-with _ _ _ _ _ (c .before .before .before .before .before .before .write-fault .ensures) _ _ refl (omega arith) (omega (arith, k)) (omega (arith, k))
     (c .before .before .fill-records .ensures)

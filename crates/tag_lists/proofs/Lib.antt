@@ -1,0 +1,4 @@
+pub mod TagFaults
+pub mod Build
+pub mod Judging
+pub mod Reading

@@ -1,0 +1,145 @@
+-- Reading a tree: which case of the promise holds.
+--   reading-place, reading-tags, reading-length    what stands in the bytes where nothing is refused
+--   filled-refused, filled-short, filled-done      the three cases, as the pass that fills the room meets them
+--   tree-unread, tree-read                         the two answers of the reader of one tree
+--   tags-refused, tags-written                     the two answers of the reader of a whole list
+use Prim.Native.Nat.{ℕ, _*_, _≤_, _<_}
+use mathlib.Core.Path.{_≡_, refl, ap, _∙_, sym, subst}
+use mathlib.Core.Bool.{Bool, true, false}
+use mathlib.Core.List.{List}
+use native.Mathlib.Omega.{arith}
+use native.Mathlib.Decide.{ℕ-discrete, decLe}
+use lib.ListN.{length}
+use lib.Dec.{eqb}
+use Rattle.turns.specs.Pick.{pick}
+use Rattle.turns.specs.Turn.{Turned}
+use Rattle.trees.specs.Tree.{whole}
+use Rattle.trees.specs.Listed.{signature-length}
+use Rattle.trees.specs.Tags.{WholeTags}
+use Rattle.checking.specs.Kinds.{anyName, most}
+use Rattle.checking.specs.Stops.{Answered, answered, worked, refusedAs}
+use Rattle.checking.specs.declared.Kind.{Kind}
+use Rattle.checking.specs.declared.Written.{Written}
+use Rattle.bytes_read.specs.Scans.{Scan, haltNumber}
+use Rattle.bytes_read.specs.Room.{Left, leftBy, frontWith}
+use Rattle.bytes_read.proofs.Scanning.{passed-grow}
+use Rattle.bytes_read.proofs.Rooms.{refusedBy, refused-is, short-is, written-is}
+use Rattle.tag_lists.specs.declared.TreeRead.{TreeRead}
+use Rattle.tag_lists.specs.TagLists.{tagFault, tagNext, treeEnd, treeScan, tagsFrom, numbersIn, readTold, ReadLeft, TreePromise, TagsPromise, Filled, FilledPromise}
+use Rattle.tag_lists.proofs.Build.{whole-numbers}
+use Rattle.tag_lists.proofs.Judging.{tag-passes, read-whole}
+
+-- what stands in the bytes where nothing is refused; n elements were read
+module _ (all any : Bool) (m : ℕ) (b : List ℕ) (p n : ℕ) (en : n ≡ treeScan all any m b p .state .count)
+    (ez : haltNumber (treeScan all any m b p .halt) ≡ 0) where
+  pub reading-place : p ≤ length b
+  reading-place =
+      let r = read-whole all any m b p ez in
+      let g = passed-grow (treeEnd all b) (tagFault any m b) (tagNext b) (length b) (tag-passes all any m b) (r .1) in
+      omega (arith, g .0, g .1 (omega (arith, r .2 .steps, r .2 .some)))
+
+  pub reading-tags : WholeTags (tagsFrom b (2 * n) p)
+  reading-tags = subst (λ (x : ℕ). WholeTags (tagsFrom b (2 * x) p)) (sym en) (read-whole all any m b p ez .2 .tags)
+
+  pub reading-length : length (numbersIn b p n) ≡ 4 * n
+  reading-length =
+      let t = whole-numbers b p n reading-tags in
+      ap length (t .numbers) ∙ omega (arith, signature-length (whole (t .tree)) 1 0 0, t .many)
+
+-- the three cases: f, at and n are what the judging pass came to
+module _ (all : Bool) (k : Kind) (b : List ℕ) (p : ℕ) (room : List ℕ) (any : Bool) (m : ℕ) (ea : any ≡ anyName k) (em : m ≡ most k) (f at n : ℕ)
+    (ep : at ≡ treeScan all any m b p .state .at) (en : n ≡ treeScan all any m b p .state .count) (ef : f ≡ haltNumber (treeScan all any m b p .halt)) where
+  same : treeScan all any m b p ≡ treeScan all (anyName k) (most k) b p
+  same = ap (λ (x : Bool). treeScan all x m b p) ea ∙ ap (λ (x : ℕ). treeScan all (anyName k) x b p) em
+
+  promised : (g l : ℕ) (after : List ℕ) → Filled f at (numbersIn b p n) room g at l after → FilledPromise all k b p room g at l after
+  promised g l after h =
+      let e₁ = ef ∙ ap (λ (t : Turned Scan). haltNumber (t .halt)) same in
+      let e₂ = ep ∙ ap (λ (t : Turned Scan). t .state .at) same in
+      let e₃ = en ∙ ap (λ (t : Turned Scan). t .state .count) same in
+      subst (λ (x : ℕ). Filled (haltNumber (treeScan all (anyName k) (most k) b p .halt)) (treeScan all (anyName k) (most k) b p .state .at) (numbersIn b p x) room g at l after) e₃
+      (subst (λ (x : ℕ). Filled (haltNumber (treeScan all (anyName k) (most k) b p .halt)) x (numbersIn b p n) room g at l after) e₂
+      (subst (λ (x : ℕ). Filled x at (numbersIn b p n) room g at l after) e₁ h))
+
+  as-left : (g : ℕ) (after : List ℕ) (x : Left) → leftBy f 0 (numbersIn b p n) room ≡ x → g ≡ x .answer .number → after ≡ x .room
+      → (g ≡ 0 → 4 * n ≡ length (numbersIn b p n)) → FilledPromise all k b p room g at (4 * n) after
+  as-left g after x q u v l = promised g (4 * n) after (record {
+    told = u ∙ ap (λ (y : Left). y .answer .number) (sym q);
+    left = v ∙ ap (λ (y : Left). y .room) (sym q);
+    ended = λ z. refl;
+    long = l;
+  })
+
+  pub filled-refused : (f ≡ 0 → ⊥) → FilledPromise all k b p room f at (4 * n) room
+  filled-refused h = as-left f room _ (refused-is f 0 (numbersIn b p n) room h) refl refl (λ z. absurd (h z))
+
+  pub filled-short : f ≡ 0 → length room < 4 * n → FilledPromise all k b p room 10 at (4 * n) room
+  filled-short z l =
+      as-left 10 room _ (short-is f 0 (numbersIn b p n) room z (omega (arith, reading-length all any m b p n en (sym ef ∙ z)))) refl refl (λ w. absurd (omega arith))
+
+  pub filled-done : (after : List ℕ) → f ≡ 0 → 4 * n ≤ length room → after ≡ frontWith (numbersIn b p n) room → FilledPromise all k b p room 0 at (4 * n) after
+  filled-done after z l w =
+      let e = reading-length all any m b p n en (sym ef ∙ z) in
+      as-left 0 after _ (written-is f 0 (numbersIn b p n) room z (omega arith)) refl w (λ u. sym e)
+
+-- the number of an answer tells it
+module _ (number : ℕ) (result room : List ℕ) (g : ℕ) (is : g ≡ leftBy number 0 result room .answer .number) where
+  answer-refused : (g ≡ 0 → ⊥) → leftBy number 0 result room .answer ≡ refusedAs g 0
+  answer-refused h = go (ℕ-discrete number 0) (decLe (length result) (length room))
+    where
+      by : (a : Left) → leftBy number 0 result room ≡ a → a .answer ≡ refusedAs (a .answer .number) 0 → leftBy number 0 result room .answer ≡ refusedAs g 0
+      by a q e =
+          ap (λ (x : Left). x .answer) q ∙ e ∙ ap (λ (n : ℕ). refusedAs n 0) (sym (is ∙ ap (λ (x : Left). x .answer .number) q))
+
+      go : Dec (number ≡ 0) → Dec (length result ≤ length room) → leftBy number 0 result room .answer ≡ refusedAs g 0
+      go (no n) d = by _ (refused-is number 0 result room n) refl
+      go (yes n) (no l) = by _ (short-is number 0 result room n (omega arith)) refl
+      go (yes n) (yes l) = absurd (h (is ∙ ap (λ (x : Left). x .answer .number) (written-is number 0 result room n l)))
+
+  answer-worked : g ≡ 0 → leftBy number 0 result room .answer ≡ worked (length result)
+  answer-worked h = go (ℕ-discrete number 0) (decLe (length result) (length room))
+    where
+      go : Dec (number ≡ 0) → Dec (length result ≤ length room) → leftBy number 0 result room .answer ≡ worked (length result)
+      go (no n) d = absurd (n (sym (is ∙ ap (λ (x : Left). x .answer .number) (refused-is number 0 result room n)) ∙ h))
+      go (yes n) (no l) =
+          let z : _≡_ {A = ℕ} 10 0 = sym (is ∙ ap (λ (x : Left). x .answer .number) (short-is number 0 result room n (omega arith))) ∙ h in absurd (omega arith)
+      go (yes n) (yes l) = ap (λ (x : Left). x .answer) (written-is number 0 result room n l)
+
+-- a refusal of a reading by its number
+abbrev pub unreadBy : ℕ → TreeRead
+unreadBy number = TreeRead.Refused (record { number = number; entry = record { 0 = 0 } })
+
+-- the answers: g, at and l are what the pass that fills the room came to
+module _ (number end : ℕ) (result room : List ℕ) (g at l : ℕ) (after : List ℕ) (h : Filled number end result room g at l after) where
+  read-as : (r : TreeRead) (x : Answered) → leftBy number 0 result room .answer ≡ x → readTold r .answer ≡ x
+      → readTold r .end ≡ pick (eqb (x .refused) 0) end 0 → ReadLeft number end result room r after
+  read-as r x q u v = record { told = u ∙ sym q; ended = v ∙ ap (λ (y : Answered). pick (eqb (y .refused) 0) end 0) (sym q); left = h .left }
+
+  left-refused : (r : TreeRead) → r ≡ unreadBy g → (g ≡ 0 → ⊥) → ReadLeft number end result room r after
+  left-refused r q n =
+      read-as r _ (answer-refused number result room g (h .told) n) (ap (λ (x : TreeRead). readTold x .answer) q) (ap (λ (x : TreeRead). readTold x .end) q)
+
+  left-done : (r : TreeRead) → r ≡ TreeRead.Tree l at → g ≡ 0 → ReadLeft number end result room r after
+  left-done r q z =
+      let e = q ∙ ap (λ (x : ℕ). TreeRead.Tree x at) (h .long z) ∙ ap (TreeRead.Tree (length result)) (h .ended z) in
+      read-as r _ (answer-worked number result room g (h .told) z) (ap (λ (x : TreeRead). readTold x .answer) e) (ap (λ (x : TreeRead). readTold x .end) e)
+
+  told-refused : (w : Written) → w ≡ refusedBy g 0 → (g ≡ 0 → ⊥) → answered w ≡ leftBy number 0 result room .answer
+  told-refused w q n = ap answered q ∙ sym (answer-refused number result room g (h .told) n)
+
+  told-written : (w : Written) → w ≡ Written.Length l → g ≡ 0 → answered w ≡ leftBy number 0 result room .answer
+  told-written w q z = ap answered q ∙ ap (λ (x : ℕ). worked x) (h .long z) ∙ sym (answer-worked number result room g (h .told) z)
+
+module _ (k : Kind) (b : List ℕ) (p : ℕ) (room : List ℕ) (g at l : ℕ) (after : List ℕ) where
+  pub tree-unread : FilledPromise false k b p room g at l after → (r : TreeRead) → r ≡ unreadBy g → (g ≡ 0 → ⊥) → TreePromise k b p room r after
+  tree-unread h r q n = left-refused _ _ _ _ g at l after h r q n
+
+  pub tree-read : FilledPromise false k b p room g at l after → (r : TreeRead) → r ≡ TreeRead.Tree l at → g ≡ 0 → TreePromise k b p room r after
+  tree-read h r q z = left-done _ _ _ _ g at l after h r q z
+
+module _ (k : Kind) (b : List ℕ) (room : List ℕ) (g at l : ℕ) (after : List ℕ) (h : FilledPromise true k b 0 room g at l after) where
+  pub tags-refused : (w : Written) → w ≡ refusedBy g 0 → (g ≡ 0 → ⊥) → TagsPromise k b room w after
+  tags-refused w q n = record { told = told-refused _ _ _ _ g at l after h w q n; left = h .left }
+
+  pub tags-written : (w : Written) → w ≡ Written.Length l → g ≡ 0 → TagsPromise k b room w after
+  tags-written w q z = record { told = told-written _ _ _ _ g at l after h w q z; left = h .left }

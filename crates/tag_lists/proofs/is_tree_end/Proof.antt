@@ -1,0 +1,26 @@
+-- Each of the ways of the test is a law of it.
+use mathlib.Core.Path.{sym}
+use Rattle.tag_lists.proofs.TagFaults.{end-last, end-more, end-here, end-open}
+use native.Mathlib.Omega.{arith}
+use borrow.Author.Needs.{needs}
+use Rattle.tag_lists.proofs.is_tree_end.Statement.{statement}
+use Rattle.tag_lists.proofs.is_tree_end.Tie as tie
+
+is-root-closed-requires : tie.Need-is-root-closed-requires
+is-root-closed-requires c κs = search needs
+
+returns : tie.Need-returns
+returns c = sym (end-last _ _ _ (cc) (cc) (omega arith))
+
+returns-2 : tie.Need-returns-2
+returns-2 c = sym (end-more _ _ _ (cc) (cc) (omega arith))
+
+returns-3 : tie.Need-returns-3
+returns-3 c = sym (end-here _ _ _ (cc) (cc))
+
+returns-4 : tie.Need-returns-4
+returns-4 c = sym (end-open _ _ _ (cc))
+
+pub is-tree-end-spec : {M : Type 1} → statement M
+is-tree-end-spec =
+    tie.close (tie.spec is-root-closed-requires returns returns-2 returns-3 returns-4)

@@ -1,0 +1,3 @@
+-- Tag lists: how they are read; the readers' promises.
+pub mod TagLists
+pub mod Builds
