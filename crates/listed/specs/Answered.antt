@@ -23,7 +23,7 @@ use Rattle.walks.specs.Listing.{answers-ascending, answers-unique}
 use Rattle.walks.specs.Potential.{Bounded}
 use Rattle.walks.specs.Preorder.{Smaller, first, then, ascending-smaller}
 use Rattle.walks.specs.Room.{imageOf, roomOf, room-get, image-zero}
-use Rattle.loose.specs.Preparing.{passes}
+use Rattle.preparing.specs.Preparing.{passes}
 use Rattle.listed.specs.Loose.{Passes, Under, rank, LooseAnswer}
 use Rattle.listed.specs.Matching.{Match, match, answer-match}
 use Rattle.listed.specs.Bits.{passes-true, true-passes}
@@ -65,16 +65,16 @@ module _ (n m : ℕ) (e w : Entries) (tree : Facts n e) (twig : Facts m w) where
   nodes-answer z k h = record {
     nodes = length-reverse z ∙ k;
     each = λ q a b.
-      let i = rank-image z q a in
-      let f = h q a b in
-      record {
-        low = rw i (omega (arith, f .above));
-        high = rw i (f .high);
-        name = rw i (passes-true (w .name q) (e .name (imageOf z q)) (f .test));
-      };
+        let i = rank-image z q a in
+        let f = h q a b in
+        record {
+          low = rw i (omega (arith, f .above));
+          high = rw i (f .high);
+          name = rw i (passes-true (w .name q) (e .name (imageOf z q)) (f .test));
+        };
     below = λ q a b.
-      let f = h q (omega arith) b in
-      rw (rank-image z q (omega arith), parent-image z q a b) (record { after = f .above; before = f .within a });
+        let f = h q (omega arith) b in
+        rw (rank-image z q (omega arith), parent-image z q a b) (record { after = f .above; before = f .within a });
   }
 
   answer-nodes : (z : List ℕ) → LooseAnswer n m e w (reverse z) → (q : ℕ) → 1 ≤ q → q ≤ m → NodeFits n m e w tree twig (byName e w) z q
@@ -102,7 +102,7 @@ module _ (n m : ℕ) (e w : Entries) (tree : Facts n e) (twig : Facts m w) where
       let i = plain-exactly names (choices-plain n e w (byName e w)) m (z .0) .0 (z .1) in
       subst (LooseAnswer n m e w) (z .2)
       (nodes-answer (z .0) (i .0) (λ q a b. nodes-of n m e w tree twig (byName e w) (z .0) (omega (arith, i .0)) (i .1) q a
-          (omega (arith, i .0))))
+      (omega (arith, i .0))))
 
   -- and every loose answer is listed
   pub loose-complete : (l : List ℕ) → LooseAnswer n m e w l → List·Memᴰ l (looseAnswers n m e w)
@@ -159,7 +159,7 @@ module _ (n m : ℕ) (e w : Entries) (tree : Facts n e) (twig : Facts m w) where
     names-bits z g q a b =
         let h = answer-nodes z g q a b in
         let k : Match n m e w q (imageOf z q) = subst (Match n m e w q) (rank-image z q a)
-            (answer-match n m e w twig (reverse z) g q a b) in
+        (answer-match n m e w twig (reverse z) g q a b) in
         record {
           above = h .above;
           high = h .high;
@@ -171,10 +171,10 @@ module _ (n m : ℕ) (e w : Entries) (tree : Facts n e) (twig : Facts m w) where
     walked-range : (z : List ℕ) → length z ≡ m → InRange walked z ↔ InRange names z
     walked-range z k = (
       λ h. of-nodes n m e w tree twig (byName e w) z (omega arith)
-        (λ q a b. bits-names z q a (omega arith) (nodes-of n m e w tree twig pass z (omega arith) h q a b)),
+          (λ q a b. bits-names z q a (omega arith) (nodes-of n m e w tree twig pass z (omega arith) h q a b)),
       λ h.
-        let g = nodes-answer z k (λ q a b. nodes-of n m e w tree twig (byName e w) z (omega arith) h q a (omega arith)) in
-        of-nodes n m e w tree twig pass z (omega arith) (λ q a b. names-bits z g q a (omega arith)),
+          let g = nodes-answer z k (λ q a b. nodes-of n m e w tree twig (byName e w) z (omega arith) h q a (omega arith)) in
+          of-nodes n m e w tree twig pass z (omega arith) (λ q a b. names-bits z g q a (omega arith)),
     )
 
     pub bits-same : answersFrom walked m [] ≡ answersFrom names m []
@@ -183,10 +183,11 @@ module _ (n m : ℕ) (e w : Entries) (tree : Facts n e) (twig : Facts m w) where
         let r = choices-plain n e w (byName e w) in
         answers-unique names (plain-rising names r) m (answersFrom walked m []) (answers-ascending walked (plain-rising walked p) m [] tt)
         (λ z.
-          let x = plain-exactly walked p m z in
-          let g = plain-good names r z in
-          (λ k. let y = x .0 k in (y .0, g .1 (walked-range z (y .0) .0 (y .1))),
-           λ k. x .1 (k .0, walked-range z (k .0) .1 (g .0 (k .1)))))
+        let x = plain-exactly walked p m z in
+        let g = plain-good names r z in (
+          λ k. let y = x .0 k in (y .0, g .1 (walked-range z (y .0) .0 (y .1))),
+          λ k. x .1 (k .0, walked-range z (k .0) .1 (g .0 (k .1))),
+        ))
 
     pub bits-listed : map reverse (answersFrom walked m []) ≡ looseAnswers n m e w
     unfolding looseAnswers
@@ -201,17 +202,19 @@ module _ (n m : ℕ) (e w : Entries) (tree : Facts n e) (twig : Facts m w) where
         let up : 1 ≤ w .fa k = twig .inner k (omega arith) l in
         let f : w .fa k < k = twig .each k (omega arith) l .fa-high in
         let p = nodes-of n m e w tree twig pass z (omega arith) (plain-good walked (choices-plain n e w pass) z .0 g) (w .fa k) up
-            (omega arith) in
+        (omega arith) in
         let q = imageOf z (w .fa k) in
         let c = under (w .fa k) k q (omega arith) l refl
-            (bits (w .fa k) q up (omega arith) (omega (arith, p .above)) (p .high) .0 (p .test)) in
-        let t = tree .each q (omega (arith, p .above)) (p .high) in
-        (c .0, inside-fits walked (choices-plain n e w pass)
-          (record {
-            low = c .1 .after;
-            high = c .1 .before;
-            passes = bits k (c .0) (omega arith) l (omega (arith, c .1 .after)) (omega (arith, c .1 .before, t .ff-high)) .1 (c .2);
-          }))
+        (bits (w .fa k) q up (omega arith) (omega (arith, p .above)) (p .high) .0 (p .test)) in
+        let t = tree .each q (omega (arith, p .above)) (p .high) in (
+          c .0,
+          inside-fits walked (choices-plain n e w pass)
+              (record {
+                low = c .1 .after;
+                high = c .1 .before;
+                passes = bits k (c .0) (omega arith) l (omega (arith, c .1 .after)) (omega (arith, c .1 .before, t .ff-high)) .1 (c .2);
+              }),
+        )
       where
         under : (p r y : ℕ) → 1 ≤ r → r ≤ m → w .fa r ≡ p → Match n m e w p y → (c : ℕ) × Under e y c × Match n m e w r c
         under p r y a b f (match l h s at u sub) = (at r a b f, u r a b f, sub r a b f)
@@ -220,7 +223,7 @@ module _ (n m : ℕ) (e w : Entries) (tree : Facts n e) (twig : Facts m w) where
     bits-bounded = record {
       low = λ xs g l. omega arith;
       high = λ xs g l.
-        end-high n m e w tree twig pass xs
-        (λ q a b. nodes-of n m e w tree twig pass xs (omega arith) (plain-good walked (choices-plain n e w pass) xs .0 g) q a b) l;
+          end-high n m e w tree twig pass xs
+          (λ q a b. nodes-of n m e w tree twig pass xs (omega arith) (plain-good walked (choices-plain n e w pass) xs .0 g) q a b) l;
       never-fails = never-fails;
     }

@@ -20,8 +20,9 @@ use lib.Pow.{shr-shr}
 use borrow.Author.Tests.{eq-eqb, ne-eqb, eqb-true}
 use Rattle.turns.specs.Pick.{pick}
 use Rattle.trees.specs.Signature.{Entries}
-use Rattle.loose.specs.Masks.{every, hasBit, mask, maskOf}
-use Rattle.loose.specs.Preparing.{passes, childrenIn, stands, canOf}
+use Rattle.preparing.specs.Masks.{every, hasBit, mask, maskOf}
+use Rattle.preparing.proofs.Bits.{mask-above}
+use Rattle.preparing.specs.Preparing.{passes, childrenIn, stands, canOf}
 use Rattle.listed.specs.Loose.{Passes}
 
 -- ---- tests
@@ -134,10 +135,12 @@ module _ (w : Entries) (m name b q : ℕ) where
   pub stands-each : stands w m name b q ≡ true → Passes (w .name q) name × ((r : ℕ) → 1 ≤ r → r ≤ m → w .fa r ≡ q → hasBit b r ≡ true)
   unfolding stands childrenIn
   stands-each h =
-      let p = and-true (passes (w .name q) name) (every (λ r. not (eqb (w .fa r) q) || hasBit b r) m) h in
-      (passes-true (w .name q) name (p .0), λ r c d f.
-        let k = every-each (λ r. not (eqb (w .fa r) q) || hasBit b r) m (p .1) r c d in
-        rw (eq-eqb (w .fa r) q f) at k)
+      let p = and-true (passes (w .name q) name) (every (λ r. not (eqb (w .fa r) q) || hasBit b r) m) h in (
+        passes-true (w .name q) name (p .0),
+        λ r c d f.
+            let k = every-each (λ r. not (eqb (w .fa r) q) || hasBit b r) m (p .1) r c d in
+            rw (eq-eqb (w .fa r) q f) at k,
+      )
 
   pub each-stands : Passes (w .name q) name → ((r : ℕ) → 1 ≤ r → r ≤ m → w .fa r ≡ q → hasBit b r ≡ true) → stands w m name b q ≡ true
   unfolding stands childrenIn
@@ -153,3 +156,8 @@ module _ (w : Entries) (m name b q : ℕ) where
   pub can-bit : 1 ≤ q → q ≤ m → hasBit (canOf w m name b) q ≡ stands w m name b q
   unfolding canOf
   can-bit a c = mask-bit (stands w m name b) m q a c
+
+  -- and none above m
+  pub can-none : m < q → hasBit (canOf w m name b) q ≡ false
+  unfolding canOf
+  can-none h = mask-above (stands w m name b) m q h

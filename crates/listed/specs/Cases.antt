@@ -21,14 +21,14 @@ use Rattle.checking.specs.declared.Stop.{Stop}
 use Rattle.checking.specs.Rule as check
 use Rattle.checking.specs.Turn.{turnWithin, lengthFault}
 use Rattle.checked.specs.Apart.{stopOf, told-stop}
-use Rattle.loose.specs.declared.Started.{Started}
-use Rattle.loose.specs.declared.Walk.{Walk}
-use Rattle.loose.specs.declared.WalkTurn.{WalkTurn}
-use Rattle.loose.specs.Masks.{every, hasBit, mask, put}
-use Rattle.loose.specs.Given.{givenOf, ready, begun}
-use Rattle.loose.specs.Preparing.{Preparing, passes, childrenIn, stands, canOf, badParent, written, joined, stepTable, prepStep}
-use Rattle.loose.specs.PrepTurn.{cleared, startFault, StartPromise, prepAt, PrepHanded}
-use Rattle.loose.specs.WalkTurn.{WalkHanded}
+use Rattle.preparing.specs.declared.Started.{Started}
+use Rattle.walking.specs.declared.Walk.{Walk}
+use Rattle.walking.specs.declared.WalkTurn.{WalkTurn}
+use Rattle.preparing.specs.Masks.{every, hasBit, mask, put}
+use Rattle.preparing.specs.Given.{givenOf, ready, begun}
+use Rattle.preparing.specs.Preparing.{Preparing, passes, childrenIn, stands, canOf, badParent, written, joined, stepTable, prepStep}
+use Rattle.preparing.specs.PrepTurn.{cleared, startFault, StartPromise, prepAt, PrepHanded}
+use Rattle.walking.specs.WalkTurn.{WalkHanded}
 use Rattle.listed.specs.Questions.{Accepted, PrepBack, PrepTurns, Prepared}
 
 -- ---- what the code hands back
@@ -115,7 +115,7 @@ unfolding begun ready givenOf turnWithin lengthFault check.inRange run check.ste
     every hasBit mask put passes childrenIn stands canOf badParent written joined stepTable prepStep cleared
 five-turns =
     more {b = 2} {r = back 3 2 Stop.Budget (0 ∷ 0 ∷ 0 ∷ 0 ∷ 0 ∷ 2 ∷ 2 ∷ 0 ∷ 2 ∷ 0 ∷ 7 ∷ [])}
-        (record { state = refl; steps = refl; stop = refl; leaves = refl })
+    (record { state = refl; steps = refl; stop = refl; leaves = refl })
     (one {b = 9} (record { state = refl; steps = refl; stop = refl; leaves = refl }))
 
 pub five-prepared : Prepared five oneOne fiveTable

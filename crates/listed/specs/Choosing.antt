@@ -20,7 +20,7 @@ use Rattle.trees.specs.Facts.{Facts}
 use Rattle.walks.specs.Walking.{Choices, answersFrom}
 use Rattle.walks.specs.Plain.{Plain, Inside, InRange}
 use Rattle.walks.specs.Room.{imageOf, image-top, image-down}
-use Rattle.loose.specs.Preparing.{passes}
+use Rattle.preparing.specs.Preparing.{passes}
 
 -- the image of the next node's twig parent; what stands above the root has image 0
 unfoldable pub parentOf : Entries → List ℕ → ℕ
@@ -139,6 +139,7 @@ module _ (n m : ℕ) (e w : Entries) (tree : Facts n e) (twig : Facts m w) (pass
 
   pub of-nodes : (z : List ℕ) → length z ≤ m → ((q : ℕ) → 1 ≤ q → q ≤ length z → NodeFits z q) → InRange (choices n e w pass) z
   of-nodes [] l h = tt
-  of-nodes (x ∷ xs) l h =
-      (of-head x xs l (h (suc (length xs)) (omega arith) (omega arith)),
-       of-nodes xs (omega arith) (λ q a b. node-up x xs q a b l (h q a (omega arith))))
+  of-nodes (x ∷ xs) l h = (
+    of-head x xs l (h (suc (length xs)) (omega arith) (omega arith)),
+    of-nodes xs (omega arith) (λ q a b. node-up x xs q a b l (h q a (omega arith))),
+  )

@@ -21,20 +21,20 @@ use Rattle.trees.specs.Signature.{entriesOf, width}
 use Rattle.walks.specs.Chained.{told, AllButLast}
 use Rattle.checking.specs.declared.Stop.{Stop}
 use Rattle.checked.specs.Yields.{entries}
-use Rattle.loose.specs.declared.Prep.{Prep}
-use Rattle.loose.specs.declared.Started.{Started}
-use Rattle.loose.specs.declared.Walk.{Walk}
-use Rattle.loose.specs.declared.WalkTurn.{WalkTurn}
-use Rattle.loose.specs.Masks.{can}
-use Rattle.loose.specs.Given.{givenOf}
-use Rattle.loose.specs.Preparing.{Preparing, prepared, prepStep}
-use Rattle.loose.specs.PrepTurn.{StartPromise, preparing, prepInRange, prepRunOf, PrepHanded, PrepPromise}
-use Rattle.loose.specs.Walking.{inRange, stepOf, ended, fresh}
-use Rattle.loose.specs.WalkTurn.{walkRunOf, WalkHanded, WalkPromise}
-use Rattle.listed.specs.Questions.{Accepted, Lent, PrepBack, lend, TableSays, Prepared, tellOf, start}
+use Rattle.preparing.specs.declared.Prep.{Prep}
+use Rattle.preparing.specs.declared.Started.{Started}
+use Rattle.walking.specs.declared.Walk.{Walk}
+use Rattle.walking.specs.declared.WalkTurn.{WalkTurn}
+use Rattle.preparing.specs.Masks.{can}
+use Rattle.preparing.specs.Given.{givenOf}
+use Rattle.preparing.specs.Preparing.{Preparing, prepared, prepStep}
+use Rattle.preparing.specs.PrepTurn.{StartPromise, preparing, prepInRange, prepRunOf, PrepHanded, PrepPromise}
+use Rattle.walking.specs.Walking.{inRange, stepOf, ended, fresh}
+use Rattle.walking.specs.WalkTurn.{walkRunOf, WalkHanded, WalkPromise}
+use Rattle.listed.specs.Questions.{Accepted, Lent, PrepBack, lend, TableSays, NoBitsAbove, Prepared, tellOf, start}
 use Rattle.listed.specs.Given.{begun-runs}
 use Rattle.listed.specs.Ruling.{Ready}
-use Rattle.listed.specs.Prepared.{Done, Short, prepare-n, prepare-ends}
+use Rattle.listed.specs.Prepared.{Done, Short, prepare-n, prepare-bits, prepare-ends}
 use Rattle.listed.specs.Exactly.{allLoose, loose-exactly, walk-within}
 
 -- given signature, twig, budget, and state and table
@@ -58,6 +58,9 @@ pub record PrepTwo (call : Preparer) : Type 0 where
   pub sound : (s tw lent left : List ℕ) (p : Prep) → Accepted s tw → StartPromise (entries s) lent (Started.Fresh p) left
       → {B K : ℕ} {r : PrepBack}
       → PrepCalls call s tw (record { state = p; table = left }) B K r → r .turn .stop ≡ Stop.End → TableSays s tw (r .left)
+  pub bare : (s tw lent left : List ℕ) (p : Prep) → Accepted s tw → StartPromise (entries s) lent (Started.Fresh p) left
+      → {B K : ℕ} {r : PrepBack}
+      → PrepCalls call s tw (record { state = p; table = left }) B K r → r .turn .stop ≡ Stop.End → NoBitsAbove s tw (r .left)
   pub complete : (s tw lent left : List ℕ) (p : Prep) → Accepted s tw → StartPromise (entries s) lent (Started.Fresh p) left
       → {B K : ℕ} {r : PrepBack}
       → PrepCalls call s tw (record { state = p; table = left }) B K r → entries s ≤ B → r .turn .stop ≡ Stop.End
@@ -70,6 +73,9 @@ pub record WalkTwo (call : Walker) : Type 0 where
   pub whole : (s tw left : List ℕ) → Accepted s tw → Prepared s tw left
       → {B K : ℕ} {r : WalkTurn} (c : WalkCalls call s tw left fresh B K r)
       → r .stop ≡ Stop.End → told (tellOf (entries tw)) c ≡ allLoose s tw
+  pub unrefused : (s tw left : List ℕ) → Accepted s tw → Prepared s tw left
+      → {B K : ℕ} {r : WalkTurn} (c : WalkCalls call s tw left fresh B K r)
+      → (r .stop ≡ Stop.Answer) ⊎ (r .stop ≡ Stop.End) ⊎ (r .stop ≡ Stop.Budget)
   pub arrives : (s tw left : List ℕ) → Accepted s tw → Prepared s tw left
       → {B K : ℕ} {r : WalkTurn} (c : WalkCalls call s tw left fresh B K r)
       → AllButLast (λ u. u .stop ≡ Stop.Budget) c → 2 * (entries tw * entries s) + 1 ≤ B → (r .stop ≡ Stop.Answer) ⊎ (r .stop ≡ Stop.End)
@@ -125,6 +131,7 @@ module _ (call : Preparer) (promise : (s tw : List ℕ) (b : ℕ) (st : Lent)
   pub ours-prep-two : PrepTwo call
   ours-prep-two = record {
     sound = λ s tw lent left p a h c z. prepare-n s tw a lent left p h (kept (keeps-prep s tw) c) z .1;
+    bare = λ s tw lent left p a h c z. prepare-bits s tw a lent left p h (kept (keeps-prep s tw) c) z;
     complete = λ s tw lent left p a h {B} {K} {r} c l. by s tw l (prepare-ends s tw a lent left p h (kept (keeps-prep s tw) c));
   }
     where
@@ -134,13 +141,14 @@ module _ (call : Preparer) (promise : (s tw : List ℕ) (b : ℕ) (st : Lent)
 
   pub ours-prep-three : PrepThree call
   ours-prep-three s tw g b st i =
-      let run = prepRunOf (entriesOf width s) (entriesOf width tw) (entries tw) b (reading st) in
-      (run,
-       subst (PrepHanded (call s tw b st .turn) (call s tw b st .left))
-         (begun-runs s tw g (length (st .table)) (reading st) (prepInRange (entries s) (reading st)) run (le-leb _ _ (i .next-high))
-             (i .room))
-         (promise s tw b st),
-       turn-outcome Preparing prepared (prepStep (entriesOf width s) (entriesOf width tw) (entries tw)) b (reading st))
+      let run = prepRunOf (entriesOf width s) (entriesOf width tw) (entries tw) b (reading st) in (
+        run,
+        subst (PrepHanded (call s tw b st .turn) (call s tw b st .left))
+            (begun-runs s tw g (length (st .table)) (reading st) (prepInRange (entries s) (reading st)) run (le-leb _ _ (i .next-high))
+            (i .room))
+            (promise s tw b st),
+        turn-outcome Preparing prepared (prepStep (entriesOf width s) (entriesOf width tw) (entries tw)) b (reading st),
+      )
 
 module _ (call : Walker) (promise : (s tw left : List ℕ) (b : ℕ) (w : Walk) → WalkPromise s tw left b w (call s tw left b w)) where
   keeps-walk : (s tw left : List ℕ) (b : ℕ) (w : Walk) (r : WalkTurn) → r ≡ call s tw left b w → WalkPromise s tw left b w r
@@ -149,29 +157,31 @@ module _ (call : Walker) (promise : (s tw left : List ℕ) (b : ℕ) (w : Walk) 
   pub ours-walk-two : WalkTwo call
   ours-walk-two = record {
     front = λ s tw left a p c.
-      let x = loose-exactly s tw a left p (kept (keeps-walk s tw left) c) in
-      (x .rest, ap (λ (l : List (List ℕ)). l ++ x .rest) (sym (kept-told (keeps-walk s tw left) (tellOf (entries tw)) c)) ∙ x .front);
+        let x = loose-exactly s tw a left p (kept (keeps-walk s tw left) c) in
+        (x .rest, ap (λ (l : List (List ℕ)). l ++ x .rest) (sym (kept-told (keeps-walk s tw left) (tellOf (entries tw)) c)) ∙ x .front);
     whole = λ s tw left a p c h.
-      sym (kept-told (keeps-walk s tw left) (tellOf (entries tw)) c) ∙ loose-exactly s tw a left p (kept (keeps-walk s tw left) c) .whole h;
+        sym (kept-told (keeps-walk s tw left) (tellOf (entries tw)) c) ∙ loose-exactly s tw a left p (kept (keeps-walk s tw left) c) .whole h;
+    unrefused = λ s tw left a p c. loose-exactly s tw a left p (kept (keeps-walk s tw left) c) .unrefused;
     arrives = λ s tw left a p c h l.
-      walk-within s tw a left p start (kept (keeps-walk s tw left) c)
-          (kept-each (keeps-walk s tw left) (λ u. u .stop ≡ Stop.Budget) c h) .arrives l;
+        walk-within s tw a left p start (kept (keeps-walk s tw left) c)
+        (kept-each (keeps-walk s tw left) (λ u. u .stop ≡ Stop.Budget) c h) .arrives l;
   }
 
   pub ours-walk-three : WalkThree call
   ours-walk-three s tw left g l b w i =
-      let run = walkRunOf (entries s) (entries tw) (entriesOf width s) (entriesOf width tw) (can left) b w in
-      (run,
-       subst (WalkHanded (call s tw left b w))
-         (begun-runs s tw g (length left) w (inRange (entries s) (entries tw) (entriesOf width tw) w) run i l) (promise s tw left b w),
-       turn-outcome Walk ended (stepOf (entries s) (entries tw) (entriesOf width s) (entriesOf width tw) (can left)) b w)
+      let run = walkRunOf (entries s) (entries tw) (entriesOf width s) (entriesOf width tw) (can left) b w in (
+        run,
+        subst (WalkHanded (call s tw left b w))
+            (begun-runs s tw g (length left) w (inRange (entries s) (entries tw) (entriesOf width tw) w) run i l) (promise s tw left b w),
+        turn-outcome Walk ended (stepOf (entries s) (entries tw) (entriesOf width s) (entriesOf width tw) (can left)) b w,
+      )
 
 -- ---- demand 3 leaves one turn only
 
 pub prep-three-turn : (call : Preparer) → PrepThree call → (s tw : List ℕ) → givenOf s tw .reason ≡ 1 → (b : ℕ) (st : Lent)
     → Ready (entries s) (reading st)
     → PrepHanded (call s tw b st .turn) (call s tw b st .left)
-        (prepRunOf (entriesOf width s) (entriesOf width tw) (entries tw) b (reading st))
+    (prepRunOf (entriesOf width s) (entriesOf width tw) (entries tw) b (reading st))
 prep-three-turn call d s tw g b st i =
     let x = d s tw g b st i in
     subst (PrepHanded (call s tw b st .turn) (call s tw b st .left)) (sym (outcome-turn Preparing _ _ (x .2))) (x .1)

@@ -28,10 +28,10 @@ use Rattle.walks.specs.Stepping.{step-unrefused}
 use Rattle.checking.specs.declared.Stop.{Stop}
 use Rattle.checked.specs.Apart.{stopOf}
 use Rattle.checked.specs.Yields.{entries}
-use Rattle.loose.specs.declared.Walk.{Walk}
-use Rattle.loose.specs.declared.WalkTurn.{WalkTurn}
-use Rattle.loose.specs.Masks.{can}
-use Rattle.loose.specs.Walking.{fresh}
+use Rattle.walking.specs.declared.Walk.{Walk}
+use Rattle.walking.specs.declared.WalkTurn.{WalkTurn}
+use Rattle.preparing.specs.Masks.{can}
+use Rattle.walking.specs.Walking.{fresh}
 use Rattle.listed.specs.Loose.{LooseAnswer}
 use Rattle.listed.specs.Questions.{Accepted, Prepared, WalkTurns, tellOf, OnTheWay}
 use Rattle.listed.specs.Given.{Grounds, accepted-grounds}
@@ -54,7 +54,7 @@ chain-unrefused : (ch : Choices) {w : walks.Walk} {B K : ℕ} {t : Turned walks.
 chain-unrefused ch c number entry q =
     let l = chain-last walks.Walk walkDone (walkStep ch) c in
     outcome-unrefused ch (turn-outcome walks.Walk walkDone (walkStep ch) (l .0) (l .1)) number entry
-        (ap (λ (t : Turned walks.Walk). t .halt) (sym (l .2)) ∙ q)
+    (ap (λ (t : Turned walks.Walk). t .halt) (sym (l .2)) ∙ q)
 
 -- the ascending list of all loose answers of the twig tw on the signature s
 abbrev pub allLoose : List ℕ → List ℕ → List (List ℕ)
@@ -73,6 +73,9 @@ module _ (s tw : List ℕ) where
     pub front : told (tellOf (entries tw)) c ++ rest ≡ allLoose s tw
     pub whole : r .stop ≡ Stop.End → told (tellOf (entries tw)) c ≡ allLoose s tw
     pub unrefused : (r .stop ≡ Stop.Answer) ⊎ (r .stop ≡ Stop.End) ⊎ (r .stop ≡ Stop.Budget)
+    -- and that list is all loose answers and no others, ascending, each once
+    pub all : AllOf s tw (allLoose s tw)
+    pub once : Pairs (λ y z. y ≡ z → ⊥) (allLoose s tw)
 
   -- turns that each but the last spent their budget: to the next answer or the end
   pub record Within (B K : ℕ) (r : WalkTurn) : Type 0 where
@@ -131,7 +134,7 @@ module _ (s tw : List ℕ) where
       same =
           ap (λ (k : ℕ). map reverse (answersFrom (ch s tw g left pr) k [])) nodes
           ∙ bits-listed (entries s) (entries tw) (entriesOf width s) (entriesOf width tw) (g .tree) (g .twig) (byBit (can left))
-              (bits s tw g left pr)
+          (bits s tw g left pr)
 
       -- demand 2: the answers told, in order, are the front of the list; where the end is reported they are the list
       pub loose-exactly : {B K : ℕ} {r : WalkTurn} (c : WalkTurns s tw left fresh B K r) → Listed left c
@@ -141,17 +144,19 @@ module _ (s tw : List ℕ) where
           record {
             rest = map reverse a;
             front =
-              ap (λ (l : List (List ℕ)). l ++ map reverse a) (x .told-same)
-              ∙ sym (map-append reverse (told tell (x .chain)) a)
-              ∙ ap (map reverse) (fresh-told (ch s tw g left pr) (rise s tw g left pr) (entries tw - 1) (x .chain))
-              ∙ same;
+                ap (λ (l : List (List ℕ)). l ++ map reverse a) (x .told-same)
+                ∙ sym (map-append reverse (told tell (x .chain)) a)
+                ∙ ap (map reverse) (fresh-told (ch s tw g left pr) (rise s tw g left pr) (entries tw - 1) (x .chain))
+                ∙ same;
             whole = λ h.
-              x .told-same
-              ∙ ap (map reverse) (fresh-all (ch s tw g left pr) (rise s tw g left pr) (entries tw - 1) (x .chain)
+                x .told-same
+                ∙ ap (map reverse) (fresh-all (ch s tw g left pr) (rise s tw g left pr) (entries tw - 1) (x .chain)
                 (halt-end (x .last .halt) (sym (x .stop-same) ∙ h)))
-              ∙ same;
+                ∙ same;
             unrefused = subst (λ (k : Stop). (k ≡ Stop.Answer) ⊎ (k ≡ Stop.End) ⊎ (k ≡ Stop.Budget)) (sym (x .stop-same))
-              (kinds (x .last .halt) (chain-unrefused (ch s tw g left pr) (x .chain)));
+                (kinds (x .last .halt) (chain-unrefused (ch s tw g left pr) (x .chain)));
+            all = all-of;
+            once = all-once;
           }
 
       budgets : {x : walks.Walk} {B K : ℕ} {t : Turned walks.Walk} (c : telling.WalkTurns (ch s tw g left pr) x B K t)
@@ -167,16 +172,16 @@ module _ (s tw : List ℕ) where
           let y = x .run in
           let k = budgets (y .chain) (y .each-same h) in
           let l = chain-limit (ch s tw g left pr) (rise s tw g left pr) (entries tw) (entries s) (bound s tw g left pr) (y .chain) k
-              (x .way) in
+          (x .way) in
           record {
             limit = omega (arith, y .count-same, l);
             arrives = λ b.
-              subst (λ (z : Stop). (z ≡ Stop.Answer) ⊎ (z ≡ Stop.End)) (sym (y .stop-same))
-              (stopped (y .last .halt)
-              (subst (λ (t : Turned walks.Walk). (t .halt ≡ answer) ⊎ (t .halt ≡ end))
+                subst (λ (z : Stop). (z ≡ Stop.Answer) ⊎ (z ≡ Stop.End)) (sym (y .stop-same))
+                (stopped (y .last .halt)
+                (subst (λ (t : Turned walks.Walk). (t .halt ≡ answer) ⊎ (t .halt ≡ end))
                 (chain-one walks.Walk walkDone (walkStep (ch s tw g left pr)) (y .chain) k)
                 (turn-limit (ch s tw g left pr) (rise s tw g left pr) (entries tw) (entries s) (bound s tw g left pr) B (x .from)
-                    (x .way) b)));
+                (x .way) b)));
           }
         where
           stopped : (h : Halt) → (h ≡ answer) ⊎ (h ≡ end) → (stopOf h ≡ Stop.Answer) ⊎ (stopOf h ≡ Stop.End)

@@ -5,7 +5,7 @@
 use Prim.Native.Nat.{ℕ, _-_, _*_, _≤_, _<_}
 use mathlib.Core.Path.{_≡_, sym, ap, _∙_}
 use mathlib.Core.Logic.{_⊎_, inl, inr}
-use mathlib.Core.Bool.{Bool, true, _||_}
+use mathlib.Core.Bool.{Bool, true, false, _||_}
 use mathlib.Core.List.{List}
 use native.Mathlib.Omega.{arith}
 use native.Mathlib.Decide.{decLe, ℕ-discrete}
@@ -13,10 +13,10 @@ use lib.Bits.{bitOr}
 use lib.ListN.{length}
 use Rattle.trees.specs.Signature.{Entries}
 use Rattle.trees.specs.Facts.{Facts}
-use Rattle.loose.specs.Masks.{hasBit, can, below}
-use Rattle.loose.specs.Preparing.{stepTable}
+use Rattle.preparing.specs.Masks.{hasBit, can, below}
+use Rattle.preparing.specs.Preparing.{stepTable}
 use Rattle.listed.specs.Matching.{Match, match}
-use Rattle.listed.specs.Bits.{or-bit, or-true, true-left, true-right, stands-each, each-stands, can-bit}
+use Rattle.listed.specs.Bits.{or-bit, or-true, true-left, true-right, stands-each, each-stands, can-bit, can-none}
 use Rattle.listed.specs.Tables.{Parented, newCan, can-new, can-same, below-new, below-same}
 use Rattle.listed.specs.Rightly.{Child, in-child, child-under, Joined, Right}
 
@@ -28,7 +28,7 @@ module _ (n m : ℕ) (e w : Entries) (tree : Facts n e) (table : List ℕ) (t : 
   can-now-sound q a b h =
       let s = stands-each w m (e .name t) (below table t) q (sym (can-bit w m (e .name t) (below table t) q a b) ∙ h) in
       let u : (r : ℕ) → 1 ≤ r → r ≤ m → w .fa r ≡ q → Joined n m e w t t r
-            = λ r c d f. ok .below-sound t r low high c d (s .1 r c d f) in
+      = λ r c d f. ok .below-sound t r low high c d (s .1 r c d f) in
       match low high (s .0)
       (λ r c d f. u r c d f .at)
       (λ r c d f. child-under n e tree t (u r c d f .at) low (u r c d f .inside))
@@ -39,9 +39,9 @@ module _ (n m : ℕ) (e w : Entries) (tree : Facts n e) (table : List ℕ) (t : 
       can-bit w m (e .name t) (below table t) q a b
       ∙ each-stands w m (e .name t) (below table t) q p
       (λ r c d f.
-        let v = u r c d f in
-        let i = in-child n e tree t (at r c d f) low (v .after) (omega (arith, v .before, tree .each t low high .ff-high)) (v .before) in
-        ok .below-complete t r low high c d (record { at = at r c d f; inside = i; done = i .after; found = sub r c d f }))
+      let v = u r c d f in
+      let i = in-child n e tree t (at r c d f) low (v .after) (omega (arith, v .before, tree .each t low high .ff-high)) (v .before) in
+      ok .below-complete t r low high c d (record { at = at r c d f; inside = i; done = i .after; found = sub r c d f }))
 
   module _ (room : 2 * t ≤ length table) (parented : Parented e t) where
     abbrev after : List ℕ
@@ -80,7 +80,7 @@ module _ (n m : ℕ) (e w : Entries) (tree : Facts n e) (table : List ℕ) (t : 
       joined-bit : 1 < t → s ≡ e .fa t → hasBit (below after s) q ≡ ((x || y) || z)
       joined-bit l f =
           let g : below after s ≡ bitOr (bitOr (below table s) (newCan e w m table t)) (below table t) = rw f
-              (below-new e w m table t low room parented l) in
+          (below-new e w m table t low room parented l) in
           ap (λ (v : ℕ). hasBit v q) g
           ∙ or-bit (bitOr (below table s) (newCan e w m table t)) (below table t) q
           ∙ ap (λ (v : Bool). v || z) (or-bit (below table s) (newCan e w m table t) q)
@@ -123,7 +123,7 @@ module _ (n m : ℕ) (e w : Entries) (tree : Facts n e) (table : List ℕ) (t : 
               let v = in-child n e tree t (u .at) low (omega arith) (omega (arith, tree .each t low high .ff-high)) g in
               joined-bit l f
               ∙ true-right (x || y) z (ok .below-complete t q low high c d
-                  (record { at = u .at; inside = v; done = v .after; found = u .found }))
+              (record { at = u .at; inside = v; done = v .after; found = u .found }))
 
           by : Dec (u .inside .child ≡ t) → Dec (t ≤ 1) → Dec (s ≡ e .fa t) → hasBit (below after s) q ≡ true
           by (yes k) (yes l) f = absurd (omega (arith, u .inside .after))
@@ -139,6 +139,7 @@ module _ (n m : ℕ) (e w : Entries) (tree : Facts n e) (table : List ℕ) (t : 
     step-right = record {
       can-sound = λ s q l b c d h. sound s q l b c d (ℕ-discrete s t) h;
       can-complete = λ s q l b c d h. complete s q l b c d (ℕ-discrete s t) h;
+      can-above = λ s q l b c. above s q l b c (ℕ-discrete s t);
       below-sound = below-now-sound;
       below-complete = below-now-complete;
     }
@@ -147,6 +148,10 @@ module _ (n m : ℕ) (e w : Entries) (tree : Facts n e) (table : List ℕ) (t : 
         sound s q l b c d (yes f) h = rw f (can-now-sound q c d (rw (f, can-new e w m table t low room parented) at h))
         sound s q l b c d (no f) h = ok .can-sound s q (omega arith) b c d
             (rw (can-same e w m table t low room parented s (omega arith) f) at h)
+
+        above : (s q : ℕ) → t - 1 < s → s ≤ n → m < q → Dec (s ≡ t) → hasBit (can after s) q ≡ false
+        above s q l b c (yes f) = rw (f, can-new e w m table t low room parented) (can-none w m (e .name t) (below table t) q c)
+        above s q l b c (no f) = rw (can-same e w m table t low room parented s (omega arith) f) (ok .can-above s q (omega arith) b c)
 
         complete : (s q : ℕ) → t - 1 < s → s ≤ n → 1 ≤ q → q ≤ m → Dec (s ≡ t) → Match n m e w q s → hasBit (can after s) q ≡ true
         complete s q l b c d (yes f) h = rw (f, can-new e w m table t low room parented) (can-now-complete q c d (rw f at h))

@@ -16,7 +16,10 @@ pub mod Saved
 pub mod Ranged
 pub mod Walked
 pub mod Exactly
+pub mod OnTrees
 pub mod Cases
 pub mod Worked
+pub mod Begun
 pub mod Demands
+pub mod Faithfully
 pub mod ShutOut

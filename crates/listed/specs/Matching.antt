@@ -131,7 +131,7 @@ module _ (n m : ℕ) (e w : Entries) (twig : Facts m w) where
             let s : w .fa r < r = twig .each r (omega arith) r-high .fa-high in
             let y = below-match (w .fa r) r (g .image (w .fa r)) (omega arith) r-high refl (g .each (w .fa r) p (omega arith)) in
             let same : (i : ℕ) → i < r → placing (g .image) r (y .0) i ≡ g .image i
-                  = λ i v. placing-other (g .image) r (y .0) i (λ z. omega arith) in
+            = λ i v. placing-other (g .image) r (y .0) i (λ z. omega arith) in
             let here : placing (g .image) r (y .0) r ≡ y .0 = placing-same (g .image) r (y .0) in
             record {
               image = placing (g .image) r (y .0);
@@ -166,7 +166,7 @@ module _ (n m : ℕ) (e w : Entries) (twig : Facts m w) where
           image = g .image;
           top = g .top;
           each = λ r a b.
-            let z = match-ranked r (g .image r) (g .each r a (omega (arith, i .ff-low))) in
-            record { low = z .0; high = z .1; name = z .2 };
+              let z = match-ranked r (g .image r) (g .each r a (omega (arith, i .ff-low))) in
+              record { low = z .0; high = z .1; name = z .2 };
           below = λ r a b. g .below r a (omega (arith, i .ff-low));
         }

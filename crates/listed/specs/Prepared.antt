@@ -21,15 +21,15 @@ use Rattle.trees.specs.Signature.{Entries, entriesOf, width}
 use Rattle.checking.specs.declared.Stop.{Stop}
 use Rattle.checked.specs.Apart.{stopOf, told-halt}
 use Rattle.checked.specs.Yields.{entries}
-use Rattle.loose.specs.declared.Prep.{Prep}
-use Rattle.loose.specs.declared.Started.{Started}
-use Rattle.loose.specs.Preparing.{Preparing, prepared, prepStep}
-use Rattle.loose.specs.PrepTurn.{cleared, Fresh, startFault, StartPromise, preparing}
-use Rattle.loose.specs.PrepTurn.{prepRunOf, prepTurnOf, prepInRange, PrepHanded, PrepPromise}
+use Rattle.preparing.specs.declared.Prep.{Prep}
+use Rattle.preparing.specs.declared.Started.{Started}
+use Rattle.preparing.specs.Preparing.{Preparing, prepared, prepStep}
+use Rattle.preparing.specs.PrepTurn.{cleared, Fresh, startFault, StartPromise, preparing}
+use Rattle.preparing.specs.PrepTurn.{prepRunOf, prepTurnOf, prepInRange, PrepHanded, PrepPromise}
 use Rattle.listed.specs.Tables.{clear-length}
 use Rattle.listed.specs.Rightly.{Right, clear-right, right-fits}
 use Rattle.listed.specs.Ruling.{Finished, prep-moves, Ready, ready-kept, fault-room}
-use Rattle.listed.specs.Questions.{Accepted, Lent, PrepBack, lend, PrepTurns, TableSays}
+use Rattle.listed.specs.Questions.{Accepted, Lent, PrepBack, lend, PrepTurns, TableSays, NoBitsAbove}
 use Rattle.listed.specs.Given.{Grounds, accepted-grounds, begun-runs}
 use Rattle.listed.specs.Public.{Back, turn-kept, Ran, chain-ran}
 
@@ -80,8 +80,8 @@ module _ (s tw : List ℕ) where
         → Is r (turn Preparing prepared (prepStep e w m) b (reading st))
     prep-runs b st r i h =
         let q : prepTurnOf s tw b (reading st) ≡ prepRunOf e w m b (reading st)
-              = begun-runs s tw (g .given) (length (st .table)) (reading st) (prepInRange n (reading st)) (prepRunOf e w m b (reading st))
-                (le-leb (st .state .next .0) n (i .next-high)) (i .room) in
+        = begun-runs s tw (g .given) (length (st .table)) (reading st) (prepInRange n (reading st)) (prepRunOf e w m b (reading st))
+        (le-leb (st .state .next .0) n (i .next-high)) (i .room) in
         let k : PrepHanded (r .turn) (r .left) (prepRunOf e w m b (reading st)) = subst (PrepHanded (r .turn) (r .left)) q h in
         let t = prepRunOf e w m b (reading st) in
         record {
@@ -95,11 +95,11 @@ module _ (s tw : List ℕ) where
 
     ran : {st : Lent} {B K : ℕ} {r : PrepBack} (c : PrepTurns s tw st B K r) (p : Preparing) → reading st ≡ p → Ready n p
         → Ran (λ b from t. PrepPromise s tw (from .table) b (from .state) (t .turn) (t .left)) lend (λ t. t .turn .steps)
-            (λ x. x .turn .stop)
-          reading prepared (prepStep e w m) (Ready n) ready-stays prep-runs {A = ℕ} (λ x. []) (λ x. []) (λ r t i x. refl) p c
+        (λ x. x .turn .stop)
+        reading prepared (prepStep e w m) (Ready n) ready-stays prep-runs {A = ℕ} (λ x. []) (λ x. []) (λ r t i x. refl) p c
     ran c p q i =
         chain-ran (λ b from t. PrepPromise s tw (from .table) b (from .state) (t .turn) (t .left)) lend (λ t. t .turn .steps)
-            (λ x. x .turn .stop)
+        (λ x. x .turn .stop)
         reading prepared (prepStep e w m) (Ready n) ready-stays prep-runs {A = ℕ} (λ x. []) (λ x. []) (λ r t i x. refl) c p q i
 
     -- what a start call that worked left
@@ -144,7 +144,7 @@ module _ (s tw : List ℕ) where
 
           by : Reached Preparing prepared (prepStep e w m) n B (x .count) (record { next = 0; table = f .left }) (x .last)
               ⊎ Underway Preparing prepared (prepStep e w m) n B (x .count) (record { next = 0; table = f .left }) (x .last)
-                  → Done s tw B K r ⊎ Short s tw B K r
+              → Done s tw B K r ⊎ Short s tw B K r
           by (inl q) =
               let z : r .left ≡ f .left = ap (λ (y : Preparing). y .table) (x .back .state-same ∙ q .state) in
               inl (record {
@@ -184,3 +184,8 @@ module _ (s tw : List ℕ) (accepted : Accepted s tw) (lent left : List ℕ) (p 
       by : Done s tw B K r ⊎ Short s tw B K r → (K ≡ entries s) × TableSays s tw (r .left)
       by (inl x) = (x .steps, x .table .says)
       by (inr x) = let q = sym h ∙ x .stop in let z : _≡_ {A = ℕ} 0 1 = cc in absurd (omega arith)
+
+  -- and no entry of it has a bit above m
+  pub prepare-bits : {B K : ℕ} {r : PrepBack} → PrepTurns s tw (record { state = p; table = left }) B K r → r .turn .stop ≡ Stop.End
+      → NoBitsAbove s tw (r .left)
+  prepare-bits c h q t a b d = grounds-right s tw (accepted-grounds s tw accepted) lent left p start c h .right .can-above t q (omega arith) d a

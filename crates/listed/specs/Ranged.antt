@@ -20,10 +20,10 @@ use Rattle.walks.specs.Plain.{plain-rising}
 use Rattle.walks.specs.Ranges.{reached-least}
 use Rattle.walks.specs.Potential.{Bounded}
 use Rattle.walks.specs.Room.{imageOf, roomOf, image-unset, image-top}
-use Rattle.loose.specs.declared.Phase.{Phase}
-use Rattle.loose.specs.declared.Walk.{Walk}
-use Rattle.loose.specs.Masks.{every}
-use Rattle.loose.specs.Walking.{image, at, placed, imageFits, phaseFits, inRange}
+use Rattle.walking.specs.declared.Phase.{Phase}
+use Rattle.walking.specs.declared.Walk.{Walk}
+use Rattle.preparing.specs.Masks.{every}
+use Rattle.walking.specs.Walking.{image, at, placed, imageFits, phaseFits, inRange}
 use Rattle.listed.specs.Bits.{each-every}
 use Rattle.listed.specs.Choosing.{parentOf, choices, choices-plain}
 use Rattle.listed.specs.Saved.{byBit, shown, image-room, Way, nodes}
@@ -64,10 +64,10 @@ module _ (n m : ℕ) (e w : Entries) (tree : Facts n e) (twig : Facts m w) (smal
   way-ranged (walking r c xs) i =
       let t = i .way in
       let low : suc (imageOf xs (w .fa (suc (length xs)))) ≤ c = reached-least (plain-rising ch (choices-plain n e w (byBit can)) xs)
-          (t .from) in
+      (t .from) in
       let g = image-room xs (w .fa (suc (length xs))) (omega (arith, t .nodes)) in
       ranged (roomOf 16 xs) (suc (length xs)) c (length xs) Phase.Walking (omega arith) (omega (arith, t .nodes)) (omega arith) (i .least)
-          (omega arith)
+      (omega arith)
       (images-fit xs (omega (arith, t .nodes)) (t .good)) (rw g (lt-ltb (imageOf xs (w .fa (suc (length xs)))) c low))
   way-ranged (atAnswer x xs) i =
       let k : suc (length xs) ≡ m = i .way .0 in

@@ -5,8 +5,7 @@
 --   in-child            each entry below s lies in the block of a child of s
 --   Joined t s q        twig node q is matched in the block of a child of s after t
 --   Right table t       the table is right after t
---   step-right          a step keeps it
---   clear-right         so it is where the start call left nothing but zeros
+--   clear-right         it is where the start call left nothing but zeros
 --   right-fits          where all entries are done, bit q of can of t says whether the twig's part under q fits with q at t
 use Prim.Native.Nat.{ℕ, zero, suc, _+_, _-_, _*_, _≤_, _<_}
 use mathlib.Core.Path.{_≡_, sym, ap, subst, _∙_}
@@ -17,8 +16,8 @@ use native.Mathlib.Omega.{arith}
 use native.Mathlib.Decide.{ℕ-discrete}
 use Rattle.trees.specs.Signature.{Entries, cell}
 use Rattle.trees.specs.Facts.{Facts, Inside, Follows}
-use Rattle.loose.specs.Masks.{hasBit, can, below}
-use Rattle.loose.specs.PrepTurn.{cleared}
+use Rattle.preparing.specs.Masks.{hasBit, can, below}
+use Rattle.preparing.specs.PrepTurn.{cleared}
 use Rattle.listed.specs.Loose.{Under, PartFits}
 use Rattle.listed.specs.Matching.{Match, fits-match, match-fits}
 use Rattle.listed.specs.Bits.{zero-bit}
@@ -94,6 +93,7 @@ module _ (n m : ℕ) (e w : Entries) where
   pub record Right (table : List ℕ) (t : ℕ) : Type 0 where
     pub can-sound : (s q : ℕ) → t < s → s ≤ n → 1 ≤ q → q ≤ m → hasBit (can table s) q ≡ true → Match n m e w q s
     pub can-complete : (s q : ℕ) → t < s → s ≤ n → 1 ≤ q → q ≤ m → Match n m e w q s → hasBit (can table s) q ≡ true
+    pub can-above : (s q : ℕ) → t < s → s ≤ n → m < q → hasBit (can table s) q ≡ false
     pub below-sound : (s q : ℕ) → 1 ≤ s → s ≤ n → 1 ≤ q → q ≤ m → hasBit (below table s) q ≡ true → Joined t s q
     pub below-complete : (s q : ℕ) → 1 ≤ s → s ≤ n → 1 ≤ q → q ≤ m → Joined t s q → hasBit (below table s) q ≡ true
 
@@ -102,6 +102,7 @@ module _ (n m : ℕ) (e w : Entries) where
   clear-right table = record {
     can-sound = λ s q a b c d h. absurd (omega arith);
     can-complete = λ s q a b c d h. absurd (omega arith);
+    can-above = λ s q a b c. absurd (omega arith);
     below-sound = λ s q a b c d h. absurd (never s q a b h);
     below-complete = λ s q a b c d h. absurd (omega (arith, h .done, h .inside .last));
   }

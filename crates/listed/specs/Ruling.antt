@@ -17,8 +17,8 @@ use Rattle.turns.specs.Pick.{pick}
 use Rattle.turns.specs.Turn.{Next, moved, answered, refused, Moves, stay, move, Step, on, found}
 use Rattle.trees.specs.Signature.{Entries}
 use Rattle.trees.specs.Facts.{Facts}
-use Rattle.loose.specs.Preparing.{Preparing, prepared, badParent, stepTable, prepStep}
-use Rattle.loose.specs.PrepTurn.{startFault}
+use Rattle.preparing.specs.Preparing.{Preparing, prepared, badParent, stepTable, prepStep}
+use Rattle.preparing.specs.PrepTurn.{startFault}
 use Rattle.listed.specs.Tables.{Parented, step-length}
 use Rattle.listed.specs.Rightly.{Right}
 use Rattle.listed.specs.Keeping.{step-right}
@@ -60,10 +60,10 @@ module _ (n m : ℕ) (e w : Entries) (tree : Facts n e) where
       let k : length after ≡ length table = step-length e w m table (suc t) in
       let z : suc t - 1 ≡ t = omega arith in
       let r : Right n m e w after t = subst (Right n m e w after) z
-          (step-right n m e w tree table (suc t) (omega arith) a ok (omega arith) p) in
+      (step-right n m e w tree table (suc t) (omega arith) a ok (omega arith) p) in
       let f = prep-moves t after (omega arith) (omega arith) r in
       let q : prepStep e w m (record { next = suc t; table = table }) ≡ moved (record { next = t; table = after })
-            = step-moves e w m (suc t) table p ∙ ap (λ (x : ℕ). moved (record { next = x; table = after })) z in
+      = step-moves e w m (suc t) table p ∙ ap (λ (x : ℕ). moved (record { next = x; table = after })) z in
       record { left = f .left; moves = move (ne-eqb (suc t) 0 (λ y. omega arith)) q (f .moves); right = f .right; long = f .long ∙ k }
 
 -- ---- what a public turn asks of its state

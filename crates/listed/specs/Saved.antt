@@ -29,11 +29,11 @@ use Rattle.walks.specs.Potential.{Bounded, Trying, OnTheWay}
 use Rattle.walks.specs.Falling.{after-answer, step-way}
 use Rattle.walks.specs.Room.{imageOf, roomOf, room-get, room-set, room-drop, image-zero, image-top, image-down}
 use Rattle.walks.specs.Mirror.{asNext, Mirrors}
-use Rattle.loose.specs.declared.Phase.{Phase}
-use Rattle.loose.specs.declared.Walk.{Walk}
-use Rattle.loose.specs.Masks.{hasBit}
-use Rattle.loose.specs.Walking as saved
-use Rattle.loose.specs.Walking.{image, place, at, endOf, badEnd, back, walkOn, stepOf, ended}
+use Rattle.walking.specs.declared.Phase.{Phase}
+use Rattle.walking.specs.declared.Walk.{Walk}
+use Rattle.preparing.specs.Masks.{hasBit}
+use Rattle.walking.specs.Walking as saved
+use Rattle.walking.specs.Walking.{image, place, at, endOf, badEnd, back, walkOn, stepOf, ended}
 use Rattle.listed.specs.Choosing.{parentOf, endAfter, choices, choices-plain, NodeFits, nodes-of}
 
 -- "can of entry c has the bit of k"
@@ -105,8 +105,8 @@ module _ (n m : ℕ) (e w : Entries) (tree : Facts n e) (twig : Facts m w) (smal
       where
         by : (ys : List ℕ) → xs ≡ ys → image l (w .fa (suc (length ys))) ≡ imageOf ys (w .fa (suc (length ys)))
             → (ltb 1 (suc (length ys))
-              && (leb (e .ff (image l (w .fa (suc (length ys))))) (image l (w .fa (suc (length ys))))
-                || ltb (n + 1) (e .ff (image l (w .fa (suc (length ys))))))) ≡ false
+            && (leb (e .ff (image l (w .fa (suc (length ys))))) (image l (w .fa (suc (length ys))))
+            || ltb (n + 1) (e .ff (image l (w .fa (suc (length ys))))))) ≡ false
         by [] z k = refl
         by (y ∷ ys) z k =
             let o = ap length z in
@@ -115,9 +115,12 @@ module _ (n m : ℕ) (e w : Entries) (tree : Facts n e) (twig : Facts m w) (smal
             let v : w .fa (suc (suc (length ys))) < suc (suc (length ys)) = twig .each (suc (suc (length ys))) (omega arith) b .fa-high in
             let i = nodes (y ∷ ys) (omega arith) (subst (Good ch) z (t .good)) (w .fa (suc (suc (length ys)))) u (omega arith) in
             let j = tree .each (imageOf (y ∷ ys) (w .fa (suc (suc (length ys))))) (omega (arith, i .above)) (i .high) in
-            rw (k, lt-leb (e .ff (imageOf (y ∷ ys) (w .fa (suc (suc (length ys)))))) (imageOf (y ∷ ys) (w .fa (suc (suc (length ys)))))
-                (j .ff-low),
-              le-ltb (n + 1) (e .ff (imageOf (y ∷ ys) (w .fa (suc (suc (length ys)))))) (j .ff-high))
+            rw (
+              k,
+              lt-leb (e .ff (imageOf (y ∷ ys) (w .fa (suc (suc (length ys)))))) (imageOf (y ∷ ys) (w .fa (suc (suc (length ys)))))
+                  (j .ff-low),
+              le-ltb (n + 1) (e .ff (imageOf (y ∷ ys) (w .fa (suc (suc (length ys)))))) (j .ff-high),
+            )
             (by-test (ltb 1 (suc (suc (length ys)))))
           where
             by-test : (b : Bool) → (b && (false || false)) ≡ false
@@ -193,18 +196,18 @@ module _ (n m : ℕ) (e w : Entries) (tree : Facts n e) (twig : Facts m w) (smal
   unfolding stepOf
   step-same (walking r c xs) i d =
       rw (end-fine r c xs (i .way) (roomOf 16 xs) c Phase.Walking
-          (image-room xs (w .fa (suc (length xs))) (omega (arith, i .way .nodes))))
+      (image-room xs (w .fa (suc (length xs))) (omega (arith, i .way .nodes))))
       (tried-same (i .way) (i .least) (step-walking ch r c xs))
   step-same (atAnswer x xs) i d =
       let t = after-answer ch m x xs (i .way) in
       let k : suc (length xs) ≡ m = i .way .0 in
       let f : w .fa (suc (length xs)) < suc (length xs) = twig .each (suc (length xs)) (omega arith) (omega arith) .fa-high in
       let j : image (roomOf 16 (x ∷ xs)) (w .fa (suc (length xs))) ≡ imageOf xs (w .fa (suc (length xs)))
-            = image-room (x ∷ xs) (w .fa (suc (length xs))) (omega arith) ∙ image-down x xs (w .fa (suc (length xs))) (omega arith) in
+      = image-room (x ∷ xs) (w .fa (suc (length xs))) (omega arith) ∙ image-down x xs (w .fa (suc (length xs))) (omega arith) in
       let g : saved.letGo (shown n (atAnswer x xs)) ≡ shown n (walking 0 (suc x) xs)
-            = at-same Phase.Walking (drop-room x xs (suc (length xs)) (omega arith) refl) refl
-              (add-one (image (roomOf 16 (x ∷ xs)) (suc (length xs)))
-              ∙ ap suc (image-room (x ∷ xs) (suc (length xs)) (omega arith) ∙ image-top x xs (suc (length xs)) refl)) in
+      = at-same Phase.Walking (drop-room x xs (suc (length xs)) (omega arith) refl) refl
+      (add-one (image (roomOf 16 (x ∷ xs)) (suc (length xs)))
+      ∙ ap suc (image-room (x ∷ xs) (suc (length xs)) (omega arith) ∙ image-top x xs (suc (length xs)) refl)) in
       rw (end-fine 0 (suc x) xs t (roomOf 16 (x ∷ xs)) x Phase.Answer j)
       (ap (walkOn n m e w can) g ∙ tried-same t (omega (arith, i .least)) (step-answer ch x xs))
   step-same atEnd i d = let z : _≡_ {A = ℕ} 0 1 = cc in absurd (omega arith)

@@ -1,4 +1,4 @@
--- Document 01's wrong programs do not meet the demands on preparing and walking: each is tried on a starred case.
+-- Document 01's wrong programs do not meet the demands on preparing and walking: each is any call that does what its name says, tried on a starred case.
 --   shut-out-prep-refusing, shut-out-walk-refusing    refusing everything (demand 2)
 --   shut-out-prep-fixed, shut-out-walk-fixed          one fixed answer, whatever it is (demand 2)
 --   shut-out-prep-idle, shut-out-walk-idle            a turn that does nothing (demand 2 for answers)
@@ -11,23 +11,23 @@ use mathlib.Core.Logic.{_⊎_, inl, inr}
 use mathlib.Core.Bool.{true, false}
 use mathlib.Core.List.{List, [], _∷_, _++_}
 use native.Mathlib.Omega.{arith}
-use lib.ListN.{take}
+use lib.ListN.{take, replicate}
 use Rattle.turns.specs.Turn.{Turned, run}
 use Rattle.turns.specs.Chains.{one}
 use Rattle.trees.specs.Signature.{cell, entriesOf, width}
 use Rattle.walks.specs.Chained.{told}
 use Rattle.checking.specs.declared.Stop.{Stop}
 use Rattle.checking.specs.declared.Refusal.{Refusal}
-use Rattle.checking.specs.Rule as check
-use Rattle.checking.specs.Turn.{turnWithin, lengthFault}
-use Rattle.loose.specs.declared.Walk.{Walk}
-use Rattle.loose.specs.declared.WalkTurn.{WalkTurn}
-use Rattle.loose.specs.Masks.{every, hasBit, mask, put, can}
-use Rattle.loose.specs.Given.{givenOf, ready, begun}
-use Rattle.loose.specs.Preparing.{Preparing, passes, childrenIn, stands, canOf, badParent, written, joined, stepTable, prepStep}
-use Rattle.loose.specs.PrepTurn.{cleared, prepAt, prepRunOf, prepTurnOf}
-use Rattle.loose.specs.Walking.{image, place, fresh, imageFits, phaseFits, inRange, endOf, badEnd, back, found, walkOn, stepOf}
-use Rattle.loose.specs.WalkTurn.{walkRunOf, walkTurnOf}
+use Rattle.walking.specs.declared.Phase.{Phase}
+use Rattle.walking.specs.declared.Walk.{Walk}
+use Rattle.walking.specs.declared.WalkTurn.{WalkTurn}
+use Rattle.preparing.specs.declared.Prep.{Prep}
+use Rattle.preparing.specs.Masks.{every, hasBit, mask, put, can}
+use Rattle.preparing.specs.Given.{givenOf}
+use Rattle.preparing.specs.Preparing.{Preparing, passes, childrenIn, stands, canOf, badParent, written, joined, stepTable, prepStep}
+use Rattle.preparing.specs.PrepTurn.{cleared, prepAt, prepRunOf}
+use Rattle.walking.specs.Walking.{image, place, at, fresh, imageFits, phaseFits, inRange, endOf, badEnd, back, found, walkOn, stepOf}
+use Rattle.walking.specs.WalkTurn.{walkRunOf, WalkHanded}
 use Rattle.listed.specs.Loose.{PartFits}
 use Rattle.listed.specs.Questions.{Lent, PrepBack, TableSays}
 use Rattle.listed.specs.Questions as questions
@@ -35,7 +35,7 @@ use Rattle.listed.specs.Given.{accepted-grounds}
 use Rattle.listed.specs.Ruling.{Ready}
 use Rattle.listed.specs.Prepared.{prepare-n}
 use Rattle.listed.specs.Cases.{four, twoThreeFour, ten, eight, four-accepted, ten-accepted, fourTable, tenTable, clearedFor}
-use Rattle.listed.specs.Cases.{four-prepared, ten-prepared, prepBack, walkBack}
+use Rattle.listed.specs.Cases.{four-prepared, ten-prepared}
 use Rattle.listed.specs.Worked.{four-listed, ten-listed}
 use Rattle.listed.specs.Demands.{Preparer, Walker, PrepTwo, WalkTwo, PrepThree, WalkThree, reading, prep-three-turn, walk-three-turn}
 
@@ -60,9 +60,9 @@ pub shut-out-prep-refusing : (call : Preparer) → ((s tw : List ℕ) (b : ℕ) 
 shut-out-prep-refusing call h d =
     let q = sym (must-end call d) ∙ h four twoThreeFour 4 fourStart .1 in let z : _≡_ {A = ℕ} 0 1 = cc in omega arith
 
-pub shut-out-prep-idle : PrepTwo (λ s tw b st. record { turn = record { state = st .state; steps = 0; stop = Stop.Budget }; left = st .table })
-    → ⊥
-shut-out-prep-idle d = let q = must-end _ d in let z : _≡_ {A = ℕ} 0 1 = cc in omega arith
+pub shut-out-prep-idle : (call : Preparer) → ((s tw : List ℕ) (b : ℕ) (st : Lent) → call s tw b st .turn .stop ≡ Stop.Budget) → PrepTwo call → ⊥
+shut-out-prep-idle call h d =
+    let q = sym (must-end call d) ∙ h four twoThreeFour 4 fourStart in let z : _≡_ {A = ℕ} 0 1 = cc in omega arith
 
 -- twig node 2, named 3, fits at entry 3 of the four entries; twig node 2 of 8(9,10), named 9, does not at entry 3 of Ten
 four-fits : PartFits 4 (entriesOf width four) (entriesOf width twoThreeFour) 2 3
@@ -78,20 +78,20 @@ ten-bit = refl
 ten-not : PartFits 10 (entriesOf width ten) (entriesOf width eight) 2 3 → ⊥
 ten-not p =
     let h = prepare-n ten eight ten-accepted (ten-prepared .lent) (ten-prepared .cleared) (ten-prepared .state) (ten-prepared .start)
-          (ten-prepared .turns) (ten-prepared .ended) .1 2 3 (omega arith) (omega arith) (omega arith) (omega arith) .1 p in
+    (ten-prepared .turns) (ten-prepared .ended) .1 2 3 (omega arith) (omega arith) (omega arith) (omega arith) .1 p in
     let q = sym ten-bit ∙ h in let z : _≡_ {A = ℕ} 0 1 = cc in omega arith
 
 pub shut-out-prep-fixed : (r : PrepBack) → PrepTwo (λ s tw b st. r) → ⊥
 shut-out-prep-fixed r d =
     let e : r .turn .stop ≡ Stop.End = must-end _ d in
     let a : TableSays four twoThreeFour (r .left)
-          = d .sound four twoThreeFour (four-prepared .lent) (four-prepared .cleared) (four-prepared .state) four-accepted
-              (four-prepared .start) (one {b = 4} refl) e in
+    = d .sound four twoThreeFour (four-prepared .lent) (four-prepared .cleared) (four-prepared .state) four-accepted
+    (four-prepared .start) (one {b = 4} refl) e in
     let b : TableSays ten eight (r .left)
-          = d .sound ten eight (ten-prepared .lent) (ten-prepared .cleared) (ten-prepared .state) ten-accepted (ten-prepared .start)
-              (one {b = 4} refl) e in
+    = d .sound ten eight (ten-prepared .lent) (ten-prepared .cleared) (ten-prepared .state) ten-accepted (ten-prepared .start)
+    (one {b = 4} refl) e in
     ten-not (b 2 3 (omega arith) (omega arith) (omega arith) (omega arith) .0
-        (a 2 3 (omega arith) (omega arith) (omega arith) (omega arith) .1 four-fits))
+    (a 2 3 (omega arith) (omega arith) (omega arith) (omega arith) .1 four-fits))
 
 -- ---- demand 2 of walking
 
@@ -123,8 +123,8 @@ pub shut-out-walk-refusing : (call : Walker)
 shut-out-walk-refusing call h d =
     let x = h four twoThreeFour fourTable 25 fresh in not-refused call d (x .0) (x .1)
 
-pub shut-out-walk-idle : WalkTwo (λ s tw left b w. record { walk = w; steps = 0; stop = Stop.Budget }) → ⊥
-shut-out-walk-idle d = not-budget _ d refl
+pub shut-out-walk-idle : (call : Walker) → ((s tw left : List ℕ) (b : ℕ) (w : Walk) → call s tw left b w .stop ≡ Stop.Budget) → WalkTwo call → ⊥
+shut-out-walk-idle call h d = not-budget call d (h four twoThreeFour fourTable 25 fresh)
 
 pub shut-out-walk-fixed : (r : WalkTurn) → WalkTwo (λ s tw left b w. r) → ⊥
 unfolding told
@@ -134,12 +134,12 @@ shut-out-walk-fixed r d = by (r .stop) refl
     by Stop.Answer h =
         let f = d .front four twoThreeFour fourTable four-accepted four-prepared (one {b = 1} refl) in
         let e : questions.told Stop.Answer (take 3 (r .walk .images)) ++ f .0 ≡ []
-              = ap (λ (x : Stop). questions.told x (take 3 (r .walk .images)) ++ f .0) (sym h) ∙ f .1 ∙ four-listed in
+        = ap (λ (x : Stop). questions.told x (take 3 (r .walk .images)) ++ f .0) (sym h) ∙ f .1 ∙ four-listed in
         let z : _≡_ {A = ℕ} 0 1 = cc in omega arith
     by Stop.End h =
         let f = d .whole ten eight tenTable ten-accepted ten-prepared (one {b = 1} refl) h in
         let e : _≡_ {A = List (List ℕ)} [] ((8 ∷ 9 ∷ 10 ∷ []) ∷ [])
-              = ap (λ (x : Stop). questions.told x (take 3 (r .walk .images))) (sym h) ∙ f ∙ ten-listed in
+        = ap (λ (x : Stop). questions.told x (take 3 (r .walk .images))) (sym h) ∙ f ∙ ten-listed in
         let z : _≡_ {A = ℕ} 0 1 = cc in omega arith
     by Stop.Budget h = not-budget (λ s tw left b w. r) d h
     by (Stop.Refused x) h = not-refused (λ s tw left b w. r) d x h
@@ -154,39 +154,38 @@ unfolding cleared
 four-ready = record { next-high = omega arith; room = omega arith }
 
 -- after b steps of preparing the four entries
-abbrev fourRun : ℕ → Turned Preparing
+abbrev pub fourRun : ℕ → Turned Preparing
 fourRun b = prepRunOf (entriesOf width four) (entriesOf width twoThreeFour) 3 b (record { next = 4; table = clearedFor 4 })
 
-four-one : fourRun 1 .steps ≡ 1
+four-next : fourRun 1 .state .next ≡ 3
 unfolding run cell every hasBit mask put passes childrenIn stands canOf badParent written joined stepTable prepStep cleared
-four-one = refl
+four-next = refl
 
-four-two : fourRun 2 .steps ≡ 2
-unfolding run cell every hasBit mask put passes childrenIn stands canOf badParent written joined stepTable prepStep cleared
-four-two = refl
+-- the four entries as the start call leaves them
+abbrev pub fourFresh : Lent
+fourFresh = record { state = prepAt 4; table = clearedFor 4 }
 
--- what demand 3 says of the steps of a turn on the four entries
-prep-steps : (call : Preparer) → PrepThree call → (b : ℕ)
-    → call four twoThreeFour b (record { state = prepAt 4; table = clearedFor 4 }) .turn .steps ≡ fourRun b .steps
-prep-steps call d b = prep-three-turn call d four twoThreeFour four-given b
-    (record { state = prepAt 4; table = clearedFor 4 }) four-ready .steps
+-- what demand 3 says of a turn on the four entries
+module _ (call : Preparer) (d : PrepThree call) (b : ℕ) where
+  prep-steps : call four twoThreeFour b fourFresh .turn .steps ≡ fourRun b .steps
+  prep-steps = prep-three-turn call d four twoThreeFour four-given b fourFresh four-ready .steps
 
-pub shut-out-prep-still : PrepThree (λ s tw b st. record
-    { turn = record { state = st .state; steps = 0; stop = Stop.Budget }; left = st .table }) → ⊥
-shut-out-prep-still d = let q : _≡_ {A = ℕ} 0 1 = prep-steps _ d 1 ∙ four-one in omega arith
+  prep-next : call four twoThreeFour b fourFresh .turn .state .next .0 ≡ fourRun b .state .next
+  prep-next = ap (λ (p : Prep). p .next .0) (prep-three-turn call d four twoThreeFour four-given b fourFresh four-ready .state)
 
-all-at-once : prepTurnOf four twoThreeFour 4096 (record { next = 4; table = clearedFor 4 }) .steps ≡ 4
-unfolding begun ready givenOf turnWithin lengthFault check.inRange run check.stepOf check.closeOf check.nameless check.secondRoot
-    check.accepted cell
-    every hasBit mask put passes childrenIn stands canOf badParent written joined stepTable prepStep cleared
-all-at-once = refl
+-- any turn that hands back the state that it was given
+pub shut-out-prep-still : (call : Preparer) → ((s tw : List ℕ) (b : ℕ) (st : Lent) → call s tw b st .turn .state ≡ st .state) → PrepThree call → ⊥
+shut-out-prep-still call h d =
+    let q : _≡_ {A = ℕ} 4 3 = ap (λ (p : Prep). p .next .0) (sym (h four twoThreeFour 1 fourFresh)) ∙ prep-next call d 1 ∙ four-next in omega arith
 
-pub shut-out-prep-at-once : PrepThree (λ s tw b st. prepBack (prepTurnOf s tw 4096 (reading st))) → ⊥
-shut-out-prep-at-once d = let q : _≡_ {A = ℕ} 4 1 = sym all-at-once ∙ prep-steps _ d 1 ∙ four-one in omega arith
+-- any turn that does all the work at once, whatever its budget; what it does later does not matter
+pub shut-out-prep-at-once : (call : Preparer) → ((b : ℕ) → call four twoThreeFour b fourFresh .turn .state ≡ prepAt 0) → PrepThree call → ⊥
+shut-out-prep-at-once call h d =
+    let q : _≡_ {A = ℕ} 0 3 = ap (λ (p : Prep). p .next .0) (sym (h 1)) ∙ prep-next call d 1 ∙ four-next in omega arith
 
-pub shut-out-prep-invented : (count : ℕ → ℕ) → (count 2 ≡ 2 → ⊥) → (call : Preparer)
-    → ((b : ℕ) → call four twoThreeFour b (record { state = prepAt 4; table = clearedFor 4 }) .turn .steps ≡ count b) → PrepThree call → ⊥
-shut-out-prep-invented count n call c d = n (sym (c 2) ∙ prep-steps call d 2 ∙ four-two)
+-- any count that is not that of the steps between the two states
+pub shut-out-prep-invented : (call : Preparer) (b : ℕ) → (call four twoThreeFour b fourFresh .turn .steps ≡ fourRun b .steps → ⊥) → PrepThree call → ⊥
+shut-out-prep-invented call b n d = n (prep-steps call d b)
 
 -- ---- demand 3 of walking
 
@@ -195,32 +194,32 @@ unfolding inRange phaseFits imageFits every image cell
 four-fresh = refl
 
 -- after b steps of walking over the four entries
-abbrev fourWalk : ℕ → Turned Walk
+abbrev pub fourWalk : ℕ → Turned Walk
 fourWalk b = walkRunOf 4 3 (entriesOf width four) (entriesOf width twoThreeFour) (can fourTable) b fresh
 
-walk-one : fourWalk 1 .steps ≡ 1
+walk-next : fourWalk 1 .state .candidate .0 ≡ 2
 unfolding run cell hasBit image place endOf badEnd back found walkOn stepOf
-walk-one = refl
+walk-next = refl
 
-walk-two : fourWalk 2 .steps ≡ 2
-unfolding run cell hasBit image place endOf badEnd back found walkOn stepOf
-walk-two = refl
+-- what demand 3 says of a turn over them
+module _ (call : Walker) (d : WalkThree call) (b : ℕ) where
+  walk-turn : WalkHanded (call four twoThreeFour fourTable b fresh) (fourWalk b)
+  walk-turn = walk-three-turn call d four twoThreeFour fourTable four-given (omega arith) b fresh four-fresh
 
-walk-steps : (call : Walker) → WalkThree call → (b : ℕ) → call four twoThreeFour fourTable b fresh .steps ≡ fourWalk b .steps
-walk-steps call d b = walk-three-turn call d four twoThreeFour fourTable four-given (omega arith) b fresh four-fresh .steps
+  walk-candidate : call four twoThreeFour fourTable b fresh .walk .candidate .0 ≡ fourWalk b .state .candidate .0
+  walk-candidate = ap (λ (w : Walk). w .candidate .0) (walk-turn .walk)
 
-pub shut-out-walk-still : WalkThree (λ s tw left b w. record { walk = w; steps = 0; stop = Stop.Budget }) → ⊥
-shut-out-walk-still d = let q : _≡_ {A = ℕ} 0 1 = walk-steps _ d 1 ∙ walk-one in omega arith
+pub shut-out-walk-still : (call : Walker) → ((s tw left : List ℕ) (b : ℕ) (w : Walk) → call s tw left b w .walk ≡ w) → WalkThree call → ⊥
+shut-out-walk-still call h d =
+    let q : _≡_ {A = ℕ} 1 2
+    = ap (λ (w : Walk). w .candidate .0) (sym (h four twoThreeFour fourTable 1 fresh)) ∙ walk-candidate call d 1 ∙ walk-next in
+    omega arith
 
-walk-at-once : walkTurnOf four twoThreeFour fourTable 4096 fresh .steps ≡ 5
-unfolding begun ready givenOf turnWithin lengthFault check.inRange run check.stepOf check.closeOf check.nameless check.secondRoot
-    check.accepted cell
-    every hasBit image place imageFits phaseFits inRange endOf badEnd back found walkOn stepOf
-walk-at-once = refl
+-- the whole walk over the four entries ends with the candidate at 5
+pub shut-out-walk-at-once : (call : Walker) → ((b : ℕ) → call four twoThreeFour fourTable b fresh .walk ≡ at (replicate 16 0) 1 5 Phase.Ended)
+    → WalkThree call → ⊥
+shut-out-walk-at-once call h d =
+    let q : _≡_ {A = ℕ} 5 2 = ap (λ (w : Walk). w .candidate .0) (sym (h 1)) ∙ walk-candidate call d 1 ∙ walk-next in omega arith
 
-pub shut-out-walk-at-once : WalkThree (λ s tw left b w. walkBack (walkTurnOf s tw left 4096 w)) → ⊥
-shut-out-walk-at-once d = let q : _≡_ {A = ℕ} 5 1 = sym walk-at-once ∙ walk-steps _ d 1 ∙ walk-one in omega arith
-
-pub shut-out-walk-invented : (count : ℕ → ℕ) → (count 2 ≡ 2 → ⊥) → (call : Walker)
-    → ((b : ℕ) → call four twoThreeFour fourTable b fresh .steps ≡ count b) → WalkThree call → ⊥
-shut-out-walk-invented count n call c d = n (sym (c 2) ∙ walk-steps call d 2 ∙ walk-two)
+pub shut-out-walk-invented : (call : Walker) (b : ℕ) → (call four twoThreeFour fourTable b fresh .steps ≡ fourWalk b .steps → ⊥) → WalkThree call → ⊥
+shut-out-walk-invented call b n d = n (walk-turn call d b .steps)

@@ -14,9 +14,9 @@ use lib.ListN.{length, getD, length-set}
 use lib.Seq.{getD-set-same, getD-set-other}
 use borrow.Author.Tests.{le-leb, lt-leb}
 use Rattle.trees.specs.Signature.{Entries, cell}
-use Rattle.loose.specs.Masks.{can, below, put}
-use Rattle.loose.specs.Preparing.{canOf, written, joined, stepTable}
-use Rattle.loose.specs.PrepTurn.{cleared}
+use Rattle.preparing.specs.Masks.{can, below, put}
+use Rattle.preparing.specs.Preparing.{canOf, written, joined, stepTable}
+use Rattle.preparing.specs.PrepTurn.{cleared}
 
 -- ---- one number of a table
 
@@ -79,7 +79,7 @@ module _ (e w : Entries) (m : ℕ) (table : List ℕ) (t : ℕ) where
         by (no l) =
             ap (λ (x : List ℕ). can x t) (step-inner (omega arith))
             ∙ put-other (put 2 table t 0 newCan) (e .fa t) 1 (bitOr (bitOr (below table (e .fa t)) newCan) (below table t)) t 0
-                (λ z. omega arith)
+            (λ z. omega arith)
             ∙ same
 
     pub can-same : (s : ℕ) → 1 ≤ s → (s ≡ t → ⊥) → can after s ≡ can table s
@@ -93,7 +93,7 @@ module _ (e w : Entries) (m : ℕ) (table : List ℕ) (t : ℕ) where
         by (no l) =
             ap (λ (x : List ℕ). can x s) (step-inner (omega arith))
             ∙ put-other (put 2 table t 0 newCan) (e .fa t) 1 (bitOr (bitOr (below table (e .fa t)) newCan) (below table t)) s 0
-                (λ z. omega arith)
+            (λ z. omega arith)
             ∙ same
 
     pub below-same : (s : ℕ) → 1 ≤ s → (1 < t → s ≡ e .fa t → ⊥) → below after s ≡ below table s

@@ -29,11 +29,11 @@ use Rattle.walks.specs.Room.{imageOf, roomOf, room-take}
 use Rattle.checking.specs.declared.Stop.{Stop}
 use Rattle.checked.specs.Apart.{stopOf, told-halt}
 use Rattle.checked.specs.Yields.{entries}
-use Rattle.loose.specs.declared.Walk.{Walk}
-use Rattle.loose.specs.declared.WalkTurn.{WalkTurn}
-use Rattle.loose.specs.Masks.{can}
-use Rattle.loose.specs.Walking.{inRange, stepOf, ended, fresh}
-use Rattle.loose.specs.WalkTurn.{walkRunOf, walkTurnOf, WalkHanded, WalkPromise}
+use Rattle.walking.specs.declared.Walk.{Walk}
+use Rattle.walking.specs.declared.WalkTurn.{WalkTurn}
+use Rattle.preparing.specs.Masks.{can}
+use Rattle.walking.specs.Walking.{inRange, stepOf, ended, fresh}
+use Rattle.walking.specs.WalkTurn.{walkRunOf, walkTurnOf, WalkHanded, WalkPromise}
 use Rattle.listed.specs.Questions.{Prepared, WalkTurns, told, tellOf, OnTheWay, start, handed}
 use Rattle.listed.specs.Given.{Grounds, begun-runs}
 use Rattle.listed.specs.Public.{Back, Ran, chain-ran}
@@ -103,7 +103,7 @@ module _ (s tw : List ℕ) (g : Grounds s tw) where
           walk = t .state;
           same = ap (λ (y : Walk). turn Walk ended step b y .state) (i .same)
               ∙ ap (λ (u : Turned Walk). u .state)
-                  (turn-mirrored (shown n) OnWay walkDone (walkStep ch) ended step mirror b (i .walk) (i .way));
+              (turn-mirrored (shown n) OnWay walkDone (walkStep ch) ended step mirror b (i .walk) (i .way));
           way = turn-inv (shown n) OnWay walkDone (walkStep ch) ended step mirror b (i .walk) (i .way);
         }
 
@@ -113,12 +113,16 @@ module _ (s tw : List ℕ) (g : Grounds s tw) where
     walk-runs : (b : ℕ) (x : Walk) (r : WalkTurn) → Standing x → WalkPromise s tw left b x r → Is r (turn Walk ended step b x)
     walk-runs b x r i h =
         let f : inRange n m w x ≡ true = rw (i .same)
-            (way-ranged n m e w (g .tree) (g .twig) (g .small) (can left) bound (i .walk) (i .way)) in
+        (way-ranged n m e w (g .tree) (g .twig) (g .small) (can left) bound (i .walk) (i .way)) in
         let q : walkTurnOf s tw left b x ≡ walkRunOf n m e w (can left) b x
-              = begun-runs s tw (g .given) (length left) x (inRange n m w x) (walkRunOf n m e w (can left) b x) f (right .room) in
+        = begun-runs s tw (g .given) (length left) x (inRange n m w x) (walkRunOf n m e w (can left) b x) f (right .room) in
         let k : WalkHanded r (walkRunOf n m e w (can left) b x) = subst (WalkHanded r) q h in
-        record { state-same = k .walk; steps-same = k .steps; stop-same = told-halt (r .stop) (walkRunOf n m e w (can left) b x .halt)
-            (k .stop) }
+        record {
+          state-same = k .walk;
+          steps-same = k .steps;
+          stop-same = told-halt (r .stop) (walkRunOf n m e w (can left) b x .halt)
+              (k .stop);
+        }
 
     -- ---- chains
 
@@ -131,13 +135,13 @@ module _ (s tw : List ℕ) (g : Grounds s tw) where
     abbrev Runs : Walk → {x : Walk} {B K : ℕ} {r : WalkTurn} → WalkTurns s tw left x B K r → Type 0
     Runs y c =
         Ran (λ b from t. WalkPromise s tw left b from t) (λ t. t .walk) (λ t. t .steps) (λ t. t .stop)
-            (λ x. x) ended step Standing standing-stays
+        (λ x. x) ended step Standing standing-stays
         walk-runs (tellOf m) saidOf said-same y c
 
     ran : {x : Walk} {B K : ℕ} {r : WalkTurn} (c : WalkTurns s tw left x B K r) → Standing x → Runs x c
     ran {x} c i =
         chain-ran (λ b from t. WalkPromise s tw left b from t) (λ t. t .walk) (λ t. t .steps) (λ t. t .stop)
-            (λ x. x) ended step Standing standing-stays
+        (λ x. x) ended step Standing standing-stays
         walk-runs (tellOf m) saidOf said-same c x refl i
 
     -- what a turn of the walk tells, in twig preorder
@@ -150,7 +154,7 @@ module _ (s tw : List ℕ) (g : Grounds s tw) where
 
         by : (h : Halt) → walkTurn ch b x .halt ≡ h
             → told (stopOf h) (take m (shown n (walkTurn ch b x .state) .images)) ≡ map reverse
-                (telling.tellOf h (images (walkTurn ch b x .state)))
+            (telling.tellOf h (images (walkTurn ch b x .state)))
         by answer q =
             let k = turn-good ch m b x q (i .way) .0 in
             ap (λ (l : List ℕ). l ∷ [])
@@ -171,9 +175,9 @@ module _ (s tw : List ℕ) (g : Grounds s tw) where
         (sym q) (turn-said b x i)
     chain-said {x} (more {b = b} {r = t} q c) i =
         let h : saidOf (asTurned (shown n) t) ≡ map reverse (tell t)
-              = subst (λ (u : Turned walks.Walk). saidOf (asTurned (shown n) u) ≡ map reverse (tell u)) (sym q) (turn-said b x i) in
+        = subst (λ (u : Turned walks.Walk). saidOf (asTurned (shown n) u) ≡ map reverse (tell u)) (sym q) (turn-said b x i) in
         let j : OnWay (t .state) = subst (λ (u : Turned walks.Walk). OnWay (u .state)) (sym q)
-              (turn-inv (shown n) OnWay walkDone (walkStep ch) ended step mirror b x i) in
+        (turn-inv (shown n) OnWay walkDone (walkStep ch) ended step mirror b x i) in
         both h (chain-said c j) ∙ sym (map-append reverse (tell t) (chained.told tell c))
 
     -- the chain over the choices that a chain of public turns is
@@ -191,8 +195,8 @@ module _ (s tw : List ℕ) (g : Grounds s tw) where
     walk-run {y} {B} {K} {r} c i =
         let a = ran c i in
         let b = chain-mirrored (shown n) OnWay walkDone (walkStep ch) ended step mirror saidOf (λ u. stopOf (u .halt) ≡ Stop.Budget)
-            (a .chain)
-              (i .walk) (i .same) (i .way) in
+        (a .chain)
+        (i .walk) (i .same) (i .way) in
         record {
           last = b .last;
           count = b .count;

@@ -21,14 +21,14 @@ use Rattle.walks.specs.Chained.{told}
 use Rattle.checking.specs.declared.Stop.{Stop}
 use Rattle.checking.specs.Rule as check
 use Rattle.checking.specs.Turn.{turnWithin, lengthFault}
-use Rattle.loose.specs.declared.Phase.{Phase}
-use Rattle.loose.specs.declared.WalkTurn.{WalkTurn}
-use Rattle.loose.specs.Masks.{every, hasBit, can}
-use Rattle.loose.specs.Given.{givenOf, ready, begun}
-use Rattle.loose.specs.Preparing.{passes}
-use Rattle.loose.specs.PrepTurn.{prepAt}
-use Rattle.loose.specs.Walking.{image, place, at, fresh, imageFits, phaseFits, inRange, endOf, badEnd, back, found, walkOn, stepOf}
-use Rattle.loose.specs.WalkTurn.{walkTurnOf}
+use Rattle.walking.specs.declared.Phase.{Phase}
+use Rattle.walking.specs.declared.WalkTurn.{WalkTurn}
+use Rattle.preparing.specs.Masks.{every, hasBit, can}
+use Rattle.preparing.specs.Given.{givenOf, ready, begun}
+use Rattle.preparing.specs.Preparing.{passes}
+use Rattle.preparing.specs.PrepTurn.{prepAt}
+use Rattle.walking.specs.Walking.{image, place, at, fresh, imageFits, phaseFits, inRange, endOf, badEnd, back, found, walkOn, stepOf}
+use Rattle.walking.specs.WalkTurn.{walkTurnOf}
 use Rattle.listed.specs.Loose.{PartFits}
 use Rattle.listed.specs.Questions.{TableSays, WalkTurns, tellOf, start, handed}
 use Rattle.listed.specs.Prepared.{prepare-n}

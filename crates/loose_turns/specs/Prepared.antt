@@ -1,4 +1,5 @@
 -- Preparing at the public calls, over their promises, for any signature, twig, table and state.
+--   refused-writes-nothing the start call, where it refuses
 --   one-start, one-result  two results that a promise allows are equal, and so is what they leave in the table
 --   step-as-written        the state and the table handed back are those after exactly the steps returned, by the written rule
 --   handed-back-in-range   from a state in range the state handed back is in range, after a refusal too
@@ -23,15 +24,15 @@ use Rattle.checking.specs.declared.Stop.{Stop}
 use Rattle.checking.specs.declared.Refusal.{Refusal}
 use Rattle.checking.specs.Stops.{told, haltTold}
 use Rattle.checked.specs.Apart.{haltOf, told-apart, told-halt, halt-told, told-stop, stopOf}
-use Rattle.loose.specs.declared.Prep.{Prep}
-use Rattle.loose.specs.declared.PrepTurn.{PrepTurn}
-use Rattle.loose.specs.declared.Started.{Started}
-use Rattle.loose.specs.Masks.{tableWidth}
-use Rattle.loose.specs.Given.{sizeOf, givenOf, begun, refusedFor}
-use Rattle.loose.specs.Preparing.{Preparing, prepared, prepStep, badParent, stepTable}
-use Rattle.loose.specs.PrepTurn.{startFault, startTold, Fresh, StartPromise, prepAt, underway, preparing, prepInRange, prepRun, prepTurnOf, PrepHanded, PrepPromise}
-use Rattle.loose.proofs.Judged.{begun-run, begun-ready, ready-state, ready-room}
-use Rattle.loose.proofs.PrepCases.{table-length, start-empty}
+use Rattle.preparing.specs.declared.Prep.{Prep}
+use Rattle.preparing.specs.declared.PrepTurn.{PrepTurn}
+use Rattle.preparing.specs.declared.Started.{Started}
+use Rattle.preparing.specs.Masks.{tableWidth}
+use Rattle.preparing.specs.Given.{sizeOf, givenOf, begun, refusedFor}
+use Rattle.preparing.specs.Preparing.{Preparing, prepared, prepStep, badParent, stepTable}
+use Rattle.preparing.specs.PrepTurn.{cleared, startFault, startTold, Fresh, StartPromise, prepAt, underway, preparing, prepInRange, prepRun, prepTurnOf, PrepHanded, PrepPromise}
+use Rattle.preparing.proofs.Judged.{begun-run, begun-ready, ready-state, ready-room}
+use Rattle.preparing.proofs.PrepCases.{table-length, start-empty}
 use Rattle.loose_turns.specs.Judging as Judging
 
 -- the twig or the signature's length refuses
@@ -92,8 +93,22 @@ module _ (n : ℕ) (table : List ℕ) where
   pub one-start : (r q : Started) (l k : List ℕ) → StartPromise n table r l → StartPromise n table q k → (r ≡ q) × (l ≡ k)
   one-start r q l k p o = (same-start r q (p .answer ∙ sym (o .answer)) (started r l p), p .leaves ∙ sym (o .leaves))
 
+  -- a refused start call names its number, hands back no state and writes nothing
+  pub refused-writes-nothing : (x : Refusal) (l : List ℕ) → StartPromise n table (Started.Refused x) l
+      → (l ≡ table) × (x .number ≡ startFault n (length table)) × (x .entry .0 ≡ 0)
+  refused-writes-nothing x l p = (p .leaves ∙ kept-whole (ℕ-discrete (startFault n (length table)) 0), number, ap (λ (f : Fresh). f .entry) (p .answer))
+    where
+      number : x .number ≡ startFault n (length table)
+      number = ap (λ (f : Fresh). f .number) (p .answer)
+
+      -- a refusal of number 0 would hand back a fresh state of 0 entries
+      kept-whole : Dec (startFault n (length table) ≡ 0)
+          → pick (eqb (startFault n (length table)) 0) (cleared (tableWidth * n) table) table ≡ table
+      kept-whole (yes h) = absurd (started (Started.Refused x) l p (number ∙ h) refl)
+      kept-whole (no h) = simp (ne-eqb _ _ h)
+
 module _ (sig twig : List ℕ) where
-  abbrev step : Preparing → Next Preparing
+  abbrev pub step : Preparing → Next Preparing
   step st = prepStep (entriesOf width sig) (entriesOf width twig) (sizeOf twig) st
 
   abbrev whole : ℕ → Preparing → Turned Preparing

@@ -4,9 +4,11 @@
 --   handed-back-in-range   from a walk in range the walk handed back is in range, after a refusal too
 --   stops-before-the-fault a turn refused at a step stands before that step, and its budget would have paid for it
 --   cut-anywhere, cut-kept a turn of a + b steps is one of a and then one of b, unless it stopped
+--   count-unique           no two counts join the same two walks, on any signature and table
 use Prim.Native.Nat.{ℕ, zero, suc, _+_, _-_, _*_, _≤_, _<_}
 use mathlib.Core.Path.{_≡_, refl, ap, _∙_, sym, subst}
 use mathlib.Core.List.{List}
+use mathlib.Core.Logic.{inl, inr}
 use mathlib.Core.Bool.{Bool, true, false}
 use lib.ListN.{length}
 use native.Mathlib.Omega.{arith}
@@ -18,17 +20,19 @@ use Rattle.checking.specs.declared.Stop.{Stop}
 use Rattle.checking.specs.declared.Refusal.{Refusal}
 use Rattle.checking.specs.Stops.{told, haltTold}
 use Rattle.checked.specs.Apart.{haltOf, told-apart, told-halt, halt-told}
-use Rattle.loose.specs.declared.Walk.{Walk}
-use Rattle.loose.specs.declared.WalkTurn.{WalkTurn}
-use Rattle.loose.specs.Masks.{tableWidth, can}
-use Rattle.loose.specs.Given.{sizeOf, givenOf}
-use Rattle.loose.specs.Kept.{Parents, Ranges}
-use Rattle.loose.specs.Walking.{inRange, stepOf, ended}
-use Rattle.loose.specs.WalkTurn.{walkRun, walkFits, walkTurnOf, WalkHanded, WalkPromise}
-use Rattle.loose.proofs.Judged.{given-twig, given-parents, begun-run, begun-ready, ready-state, ready-room}
-use Rattle.loose.proofs.WalkRanges.{range-facts, range-yes}
-use Rattle.loose.proofs.WalkSteps.{step-moved, step-answered}
+use Rattle.walking.specs.declared.Walk.{Walk}
+use Rattle.walking.specs.declared.WalkTurn.{WalkTurn}
+use Rattle.preparing.specs.Masks.{tableWidth, can}
+use Rattle.preparing.specs.Given.{sizeOf, givenOf}
+use Rattle.walking.specs.Kept.{Parents, Ranges}
+use Rattle.walking.specs.Walking.{inRange, stepOf, ended}
+use Rattle.walking.specs.WalkTurn.{walkRun, walkFits, walkTurnOf, WalkHanded, WalkPromise}
+use Rattle.preparing.proofs.Judged.{given-twig, begun-run, begun-ready, ready-state, ready-room}
+use Rattle.walking.proofs.Parents.{given-parents}
+use Rattle.walking.proofs.WalkRanges.{range-facts, range-yes}
+use Rattle.walking.proofs.WalkSteps.{step-moved, step-answered}
 use Rattle.loose_turns.specs.Judging as Judging
+use Rattle.loose_turns.specs.Trails.{Less, less-trans, less-apart, trail, progress}
 use Rattle.loose_turns.specs.Prepared.{early, halt-of}
 
 -- what was handed back, as a turn of the rule
@@ -142,3 +146,14 @@ module _ (sig twig table : List ℕ) where
     cut-kept n =
         let q = Judging.larger Walk ended step whole Good run-is kept a b w (judged w full) (λ e. n (told-halt (x .stop) Halt.budget (p .stop ∙ ap haltTold e))) in
         one-result sig twig table a w r x (subst (WalkHanded r) q o) p
+
+  -- ---- counts
+
+  leads-on : (a b : Walk) → Good a → Step Walk ended step a b → Less (trail a) (trail b)
+  leads-on a b g (on h e) = progress (sizeOf sig) (sizeOf twig) (entriesOf width sig) t (can table) (few (g .given)) b a (g .in-range) h (inl e)
+  leads-on a b g (found h e) = progress (sizeOf sig) (sizeOf twig) (entriesOf width sig) t (can table) (few (g .given)) b a (g .in-range) h (inr e)
+
+  pub count-unique : {i j : ℕ} {a b : Walk} → Good a → Steps Walk ended step i a b → Steps Walk ended step j a b → i ≡ j
+  count-unique g m w =
+      Judging.count-unique Walk ended step whole Good run-is kept (λ a b. Less (trail a) (trail b)) (λ a b c x y. less-trans x y)
+      (λ a x. less-apart x refl) leads-on g m w
