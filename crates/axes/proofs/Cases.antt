@@ -1,7 +1,6 @@
 -- Which case of a definition holds under which facts.
---   rank-…       whether a rank is one of an entry
 --   kept-…       whether the count-th element is kept
---   self-…, sibling-…, named-…, chosen-…   the tests of the axes
+--   self-…, sibling-…, chosen-…   the tests of the axes
 --   axis-…       which test an axis is
 use Prim.Native.Nat.{ℕ, zero, suc, _+_, _*_, _-_, _≤_, _<_}
 use native.Mathlib.Omega.{arith}
@@ -15,37 +14,7 @@ use lib.Dec.{ltb, leb, eqb}
 use borrow.Author.Tests.{lt-ltb, le-ltb, le-leb, lt-leb, eq-eqb, ne-eqb, ltb-true, leb-true}
 use Rattle.turns.specs.Pick.{pick}
 use Rattle.xpath.specs.Axes.{parentOf, ancestorOf, ancestorOrSelf, wholeBefore, siblingBefore, onAxis, passes, chosen}
-use Rattle.axes.specs.Checked.{isRank}
-use Rattle.axes.specs.Marks.{keptAt}
-
--- ---- ranks
-
-module _ (n i : ℕ) where
-  pub rank-low : i < 1 → isRank n i ≡ false
-  unfolding isRank
-  rank-low h = simp (lt-leb _ _ h)
-
-  pub rank-high : n < i → isRank n i ≡ false
-  unfolding isRank
-  rank-high h = simp (lt-leb _ _ h, and-false)
-
-  pub rank-yes : 1 ≤ i → i ≤ n → isRank n i ≡ true
-  unfolding isRank
-  rank-yes h g = simp (le-leb _ _ h, le-leb _ _ g)
-
-  -- a rank from 1 to n
-  pub record Ranked : Type 0 where
-    pub low : 1 ≤ i
-    pub high : i ≤ n
-
-  pub rank-inverse : isRank n i ≡ true → Ranked
-  unfolding isRank
-  rank-inverse = go (leb 1 i) (leb i n) refl refl
-    where
-      go : (a b : Bool) → leb 1 i ≡ a → leb i n ≡ b → (a && b) ≡ true → Ranked
-      go true true p q h = record { low = leb-true _ _ p; high = leb-true _ _ q }
-      go true false p q h = absurd (false≢true h)
-      go false b p q h = absurd (false≢true h)
+use Rattle.axes.specs.Position.{keptAt}
 
 -- ---- positions
 
@@ -94,19 +63,6 @@ module _ (parent : ℕ → ℕ) (a j : ℕ) where
   unfolding siblingBefore
   sibling-parent h g = simp (lt-ltb _ _ h, ne-eqb _ _ g)
 
-module _ (test a : ℕ) where
-  pub named-any : test ≡ 0 → passes test a ≡ true
-  unfolding passes
-  named-any h = simp (eq-eqb _ _ h)
-
-  pub named-yes : test ≡ a → passes test a ≡ true
-  unfolding passes
-  named-yes h = simp (eq-eqb _ _ h, or-true)
-
-  pub named-no : (test ≡ 0 → ⊥) → (test ≡ a → ⊥) → passes test a ≡ false
-  unfolding passes
-  named-no h g = simp (ne-eqb _ _ h, ne-eqb _ _ g)
-
 module _ (axis n : ℕ) (parent name : ℕ → ℕ) (test c j : ℕ) where
   pub chosen-named : passes test (name j) ≡ true → chosen axis n parent name test c j ≡ onAxis axis n parent c j
   unfolding chosen
@@ -117,16 +73,6 @@ module _ (axis n : ℕ) (parent name : ℕ → ℕ) (test c j : ℕ) where
   chosen-other h = simp (h, and-false)
 
 -- ---- which test an axis is
-
--- the axis is not number k, as the code's match says it
-abbrev pub Not : ℕ → ℕ → Type 0
-Not k axis = OneOf (k ∷ []) axis → ⊥
-
-over : (k axis : ℕ) → k ≤ axis → Not k axis → suc k ≤ axis
-over k axis h r = ⊎-elim (λ (e : k ≡ axis). absurd (r (sym e))) (λ (l : k < axis). l) (eq-or-lt-of-le h)
-
-last : (axis : ℕ) → axis ≤ 10 → 10 ≤ axis → axis ≡ 10
-last axis h g = omega arith
 
 module _ (axis n : ℕ) (up : ℕ → ℕ) (c j : ℕ) where
   abbrev at : ℕ → Bool
@@ -175,19 +121,3 @@ module _ (axis n : ℕ) (up : ℕ → ℕ) (c j : ℕ) where
   pub axis-preceding-sibling : axis ≡ 10 → onAxis axis n up c j ≡ siblingBefore up j c
   unfolding onAxis
   axis-preceding-sibling h = ap at h
-
--- the last axis is the one that is none of the others
-pub axis-last : (axis : ℕ) → axis ≤ 10
-    → (((((((((Unit {0} × Not 0 axis) × Not 1 axis) × Not 2 axis) × Not 3 axis) × Not 4 axis) × Not 5 axis) × Not 6 axis) × Not 7 axis) × Not 8 axis) × Not 9 axis
-    → axis ≡ 10
-axis-last axis h r =
-    let a : 1 ≤ axis = over 0 axis (omega arith) (r .0 .0 .0 .0 .0 .0 .0 .0 .0 .1) in
-    let b : 2 ≤ axis = over 1 axis a (r .0 .0 .0 .0 .0 .0 .0 .0 .1) in
-    let d : 3 ≤ axis = over 2 axis b (r .0 .0 .0 .0 .0 .0 .0 .1) in
-    let e : 4 ≤ axis = over 3 axis d (r .0 .0 .0 .0 .0 .0 .1) in
-    let f : 5 ≤ axis = over 4 axis e (r .0 .0 .0 .0 .0 .1) in
-    let g : 6 ≤ axis = over 5 axis f (r .0 .0 .0 .0 .1) in
-    let i : 7 ≤ axis = over 6 axis g (r .0 .0 .0 .1) in
-    let j : 8 ≤ axis = over 7 axis i (r .0 .0 .1) in
-    let k : 9 ≤ axis = over 8 axis j (r .0 .1) in
-    last axis h (over 9 axis k (r .1))

@@ -1,6 +1,2 @@
--- Axes: what the level, block and axis calls promise.
-pub mod Checked
-pub mod Level
-pub mod Block
-pub mod Axis
-pub mod Marks
+-- Axes: how the code counts for a position. What the call promises is in `marks/specs/Axis`.
+pub mod Position

@@ -38,7 +38,7 @@ module _ (n : ℕ) (e : Entries) (f : Facts n e) where
       go (inl x) ih = step k a j (omega (arith, up)) ∙ ⊎-elim
           (λ (q : a ≡ e .fa j). simp (eq-eqb (e .fa j) a (sym q)))
           (λ (q : a < e .fa j). ap (λ (b : Bool). eqb (e .fa j) a || b)
-            (ih q (omega (arith, low)) (omega (arith, low)) (omega (arith, low))) ∙ or-true (eqb (e .fa j) a))
+          (ih q (omega (arith, low)) (omega (arith, low)) (omega (arith, low))) ∙ or-true (eqb (e .fa j) a))
           (eq-or-lt-of-le (x .under))
 
   pub inside-no : (k a j : ℕ) → 1 ≤ a → 1 ≤ j → j ≤ n → (a < j → e .ff a ≤ j) → met (e .fa) k a j ≡ false

@@ -8,8 +8,8 @@
 --   onAxis axis n parent c j    j is on the axis of the context c
 --   passes test a               the name a passes the name test
 --   chosen                      on the axis, and its name passes
---   pth p P j                   j is the p-th element that passes P
---   kept p P j                  the same, or all that pass P where there is no position
+--   pth axis p P j              j is the p-th element that passes P, as the axis counts
+--   kept axis p P j             the same, or all that pass P where there is no position
 --   answerOf                    "the answer is the union, ascending, each rank once"
 --   levelOf n parent i          "The level of an entry is the number of its ancestors."
 use Prim.Native.Nat.{ℕ, zero, suc}
@@ -72,17 +72,17 @@ passes test a = eqb test 0 || eqb test a
 unfoldable pub chosen : ℕ → ℕ → (ℕ → ℕ) → (ℕ → ℕ) → ℕ → ℕ → ℕ → Bool
 chosen axis n parent name test c j = onAxis axis n parent c j && passes test (name j)
 
--- "the p-th element that passes the name test, counted in document order"
-unfoldable pub pth : ℕ → (ℕ → Bool) → ℕ → Bool
-pth p P j = P j && eqb (length (upTo j P)) p
+-- "the p-th element that passes the name test, counted in document order", whatever the axis
+unfoldable pub pth : ℕ → ℕ → (ℕ → Bool) → ℕ → Bool
+pth axis p P j = P j && eqb (length (upTo j P)) p
 
 -- "A position p of 1 or more keeps [..] only the p-th element [..]; 0 means no position."
-unfoldable pub kept : ℕ → (ℕ → Bool) → ℕ → Bool
-kept p P j = pick (eqb p 0) (P j) (pth p P j)
+unfoldable pub kept : ℕ → ℕ → (ℕ → Bool) → ℕ → Bool
+kept axis p P j = pick (eqb p 0) (P j) (pth axis p P j)
 
 -- kept for one of the contexts, "for each context separately"
 abbrev pub inAnswer : ℕ → ℕ → (ℕ → ℕ) → (ℕ → ℕ) → ℕ → ℕ → List ℕ → ℕ → Bool
-inAnswer axis n parent name test p contexts j = some (λ c. kept p (chosen axis n parent name test c) j) contexts
+inAnswer axis n parent name test p contexts j = some (λ c. kept axis p (chosen axis n parent name test c) j) contexts
 
 -- "the answer is the union, ascending, each rank once"
 abbrev pub answerOf : ℕ → ℕ → (ℕ → ℕ) → (ℕ → ℕ) → ℕ → ℕ → List ℕ → List ℕ

@@ -12,16 +12,16 @@ use Rattle.turns.specs.Pick.{pick}
 use Rattle.xpath.specs.Select.{upTo}
 use Rattle.xpath.specs.Axes.{pth, kept}
 
-module _ (p : ℕ) (P : ℕ → Bool) (j : ℕ) where
-  pub kept-none : p ≡ 0 → kept p P j ≡ P j
+module _ (axis p : ℕ) (P : ℕ → Bool) (j : ℕ) where
+  pub kept-none : p ≡ 0 → kept axis p P j ≡ P j
   unfolding kept
   kept-none h = simp (eq-eqb _ _ h)
 
-  pub kept-position : (p ≡ 0 → ⊥) → kept p P j ≡ pth p P j
+  pub kept-position : (p ≡ 0 → ⊥) → kept axis p P j ≡ pth axis p P j
   unfolding kept
   kept-position h = simp (ne-eqb _ _ h)
 
-  pub kept-other : P j ≡ false → kept p P j ≡ false
+  pub kept-other : P j ≡ false → kept axis p P j ≡ false
   unfolding kept pth
   kept-other h = go (eqb p 0)
     where
@@ -29,7 +29,7 @@ module _ (p : ℕ) (P : ℕ → Bool) (j : ℕ) where
       go true = h
       go false = simp h
 
-  pub kept-pth : P j ≡ true → kept p P j ≡ (eqb p 0 || eqb (length (upTo j P)) p)
+  pub kept-pth : P j ≡ true → kept axis p P j ≡ (eqb p 0 || eqb (length (upTo j P)) p)
   unfolding kept pth
   kept-pth h = go (eqb p 0)
     where

@@ -37,7 +37,7 @@ module _ (n : ℕ) (e : Entries) (f : Facts n e) where
     same j lj hj ne =
         ⊎-elim (λ (m : j < e .fa i). above m (f .pair j (e .fa i) lj m (omega (arith, low))))
         (λ (g : e .fa i ≤ j). inside-no n e f n j i lj l h (λ m. below g m (f .pair j i lj m h))
-          ∙ sym (inside-no n e f n j (e .fa i) lj up (omega (arith, low)) (λ m. absurd (omega arith))))
+        ∙ sym (inside-no n e f n j (e .fa i) lj up (omega (arith, low)) (λ m. absurd (omega arith))))
         (lt-or-ge j (e .fa i))
       where
         above : j < e .fa i → Inside e j (e .fa i) ⊎ Follows e j (e .fa i) → met (e .fa) n j i ≡ met (e .fa) n j (e .fa i)

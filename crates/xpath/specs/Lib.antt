@@ -13,3 +13,4 @@ pub mod NodeLists
 pub mod Says
 pub mod Spread
 pub mod SpreadKids
+pub mod SpreadUnion

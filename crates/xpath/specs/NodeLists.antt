@@ -1,7 +1,7 @@
 -- Lists of elements in document order.
 --   order-last        one more at the end
 --   lists-unique      two lists of the same elements, in document order, are equal
---   lists-selected    the elements whose rank passes a test: their ranks are those selected
+--   Selected, selected   the elements whose rank passes a test: their ranks are those selected
 use Prim.Native.Nat.{ℕ, zero, suc, _+_, _≤_, _<_}
 use mathlib.Core.Path.{_≡_, refl, ap, _∙_, sym, subst}
 use mathlib.Core.Logic.{_⊎_, inl, inr, ⊎-elim}
@@ -27,8 +27,8 @@ module _ {f : Forest} where
   order-last [] z o h = ((λ y m. absurd (List·Memᴰ·not-nil m)), tt)
   order-last (x ∷ l) z o h = (
     (λ y m. ⊎-elim (λ (a : List·Memᴰ y l). o .0 y a)
-      (λ (b : List·Memᴰ y (z ∷ [])). subst (λ (w : Node f). Before x w) (sym (List·Memᴰ·eq-of-singleton b)) (h x (List·Memᴰ·head refl)))
-      (List·Memᴰ·append-cases l m)),
+        (λ (b : List·Memᴰ y (z ∷ [])). subst (λ (w : Node f). Before x w) (sym (List·Memᴰ·eq-of-singleton b)) (h x (List·Memᴰ·head refl)))
+        (List·Memᴰ·append-cases l m)),
     order-last l z (o .1) (λ y m. h y (List·Memᴰ·tail m)),
   )
 
@@ -44,14 +44,14 @@ module _ {f : Forest} where
   order-unique (x ∷ l) [] o q a b = absurd (List·Memᴰ·not-nil (a x (List·Memᴰ·head refl)))
   order-unique (x ∷ l) (y ∷ m) o q a b =
       cons-eq same (order-unique l m (o .1) (q .1)
-        (λ z h. other x y same z (o .0 z h) (List·Memᴰ·cases-cons (a z (List·Memᴰ·tail h))))
-        (λ z h. other y x (sym same) z (q .0 z h) (List·Memᴰ·cases-cons (b z (List·Memᴰ·tail h)))))
+      (λ z h. other x y same z (o .0 z h) (List·Memᴰ·cases-cons (a z (List·Memᴰ·tail h))))
+      (λ z h. other y x (sym same) z (q .0 z h) (List·Memᴰ·cases-cons (b z (List·Memᴰ·tail h)))))
     where
       same : x ≡ y
       same = ⊎-elim (λ (e : x ≡ y). e)
           (λ (u : List·Memᴰ x m). ⊎-elim (λ (e : y ≡ x). sym e)
-            (λ (v : List·Memᴰ y l). absurd (never-both x y (o .0 y v) (q .0 x u)))
-            (List·Memᴰ·cases-cons (b y (List·Memᴰ·head refl))))
+          (λ (v : List·Memᴰ y l). absurd (never-both x y (o .0 y v) (q .0 x u)))
+          (List·Memᴰ·cases-cons (b y (List·Memᴰ·head refl))))
           (List·Memᴰ·cases-cons (a x (List·Memᴰ·head refl)))
 
       other : {k : List (Node f)} (u w : Node f) → u ≡ w → (z : Node f) → Before u z → (z ≡ w) ⊎ List·Memᴰ z k → List·Memᴰ z k
@@ -85,27 +85,36 @@ module _ {f : Forest} where
 
   pub selected : (b : ℕ → Bool) (k : ℕ) → k ≤ size f → (l : List (Node f)) × Selected b k l
   unfolding upTo
-  selected b zero h = ([], record {
-    ranks = refl;
-    order = tt;
-    sound = λ y m. absurd (List·Memᴰ·not-nil m);
-    complete = λ y p l. absurd (omega (arith, pre-low y));
-  })
+  selected b zero h = (
+    [],
+    record {
+      ranks = refl;
+      order = tt;
+      sound = λ y m. absurd (List·Memᴰ·not-nil m);
+      complete = λ y p l. absurd (omega (arith, pre-low y));
+    },
+  )
   selected b (suc k) h = go (b (suc k)) refl (selected b k (omega arith)) (node-at {f = f} (suc k) (omega arith) h)
     where
       go : (t : Bool) → b (suc k) ≡ t → (l : List (Node f)) × Selected b k l → (z : Node f) × (pre z ≡ suc k) → (l : List (Node f)) × Selected b (suc k) l
-      go false e (l, s) (z, q) = (l, record {
-        ranks = simp e (s .ranks);
-        order = s .order;
-        sound = λ y m. (s .sound y m .0, omega (arith, s .sound y m .1));
-        complete = λ y p r. ⊎-elim (λ (w : pre y ≡ suc k). absurd (false≢true (sym e ∙ ap b (sym w) ∙ p))) (λ (w : pre y < suc k). s .complete y p (omega arith)) (eq-or-lt-of-le r);
-      })
-      go true e (l, s) (z, q) = (l ++ (z ∷ []), record {
-        ranks = simp e (ap (λ (r : List ℕ). r ++ (suc k ∷ [])) (s .ranks) ∙ ap (λ (x : ℕ). map pre l ++ (x ∷ [])) (sym q) ∙ sym (map-last l z));
-        order = order-last l z (s .order) (λ y m. pre-before y z (omega (arith, s .sound y m .1)));
-        sound = λ y m. ⊎-elim (λ (a : List·Memᴰ y l). (s .sound y a .0, omega (arith, s .sound y a .1)))
-            (λ (c : List·Memᴰ y (z ∷ [])). let w = ap pre (List·Memᴰ·eq-of-singleton c) in (ap b (w ∙ q) ∙ e, omega arith)) (List·Memᴰ·append-cases l m);
-        complete = λ y p r. ⊎-elim
-            (λ (w : pre y ≡ suc k). subst (λ (x : Node f). List·Memᴰ x (l ++ (z ∷ []))) (pre-injective z y (q ∙ sym w)) (mem-last l z))
-            (λ (w : pre y < suc k). mem-left l z y (s .complete y p (omega arith))) (eq-or-lt-of-le r);
-      })
+      go false e (l, s) (z, q) = (
+        l,
+        record {
+          ranks = simp e (s .ranks);
+          order = s .order;
+          sound = λ y m. (s .sound y m .0, omega (arith, s .sound y m .1));
+          complete = λ y p r. ⊎-elim (λ (w : pre y ≡ suc k). absurd (false≢true (sym e ∙ ap b (sym w) ∙ p))) (λ (w : pre y < suc k). s .complete y p (omega arith)) (eq-or-lt-of-le r);
+        },
+      )
+      go true e (l, s) (z, q) = (
+        l ++ (z ∷ []),
+        record {
+          ranks = simp e (ap (λ (r : List ℕ). r ++ (suc k ∷ [])) (s .ranks) ∙ ap (λ (x : ℕ). map pre l ++ (x ∷ [])) (sym q) ∙ sym (map-last l z));
+          order = order-last l z (s .order) (λ y m. pre-before y z (omega (arith, s .sound y m .1)));
+          sound = λ y m. ⊎-elim (λ (a : List·Memᴰ y l). (s .sound y a .0, omega (arith, s .sound y a .1)))
+              (λ (c : List·Memᴰ y (z ∷ [])). let w = ap pre (List·Memᴰ·eq-of-singleton c) in (ap b (w ∙ q) ∙ e, omega arith)) (List·Memᴰ·append-cases l m);
+          complete = λ y p r. ⊎-elim
+              (λ (w : pre y ≡ suc k). subst (λ (x : Node f). List·Memᴰ x (l ++ (z ∷ []))) (pre-injective z y (q ∙ sym w)) (mem-last l z))
+              (λ (w : pre y < suc k). mem-left l z y (s .complete y p (omega arith))) (eq-or-lt-of-le r);
+        },
+      )

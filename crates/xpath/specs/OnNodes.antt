@@ -5,7 +5,7 @@
 --   OnAxis axis x y     y is on the axis of the context x
 --   Passes test y       the name of y passes the name test
 --   Chosen              on the axis, and its name passes
---   Pth P p y           y is the p-th element that P says, counted in document order
+--   Pth axis P p y      y is the p-th element that P says, counted in document order on every axis
 --   Kept                the p-th of those chosen; all of them where there is no position
 --   InUnion             kept for one of the contexts
 use Prim.Native.Nat.{ℕ}
@@ -58,13 +58,13 @@ abbrev pub Chosen : ℕ → ℕ → {f : Forest} → Node f → Node f → Type 
 Chosen axis test x y = OnAxis axis x y × Passes test y
 
 -- "the p-th element that passes [..], counted in document order": with those before it that pass, there are p
-abbrev pub Pth : {f : Forest} → (Node f → Type 0) → ℕ → Node f → Type 0
-Pth P p y = P y × ((l : List (Node _)) × Lists (λ z. P z × ((z ≡ y) ⊎ Before z y)) l × (length l ≡ p))
+abbrev pub Pth : ℕ → {f : Forest} → (Node f → Type 0) → ℕ → Node f → Type 0
+Pth axis P p y = P y × ((l : List (Node _)) × Lists (λ z. P z × ((z ≡ y) ⊎ Before z y)) l × (length l ≡ p))
 
 -- "0 means no position"
-abbrev pub Kept : ℕ → {f : Forest} → (Node f → Type 0) → Node f → Type 0
-Kept p P y = pick (eqb p 0) (P y) (Pth P p y)
+abbrev pub Kept : ℕ → ℕ → {f : Forest} → (Node f → Type 0) → Node f → Type 0
+Kept axis p P y = pick (eqb p 0) (P y) (Pth axis P p y)
 
 -- "for each context separately", and then the union
 abbrev pub InUnion : ℕ → ℕ → ℕ → {f : Forest} → List (Node f) → Node f → Type 0
-InUnion axis test p xs y = (x : Node _) × List·Memᴰ x xs × Kept p (Chosen axis test x) y
+InUnion axis test p xs y = (x : Node _) × List·Memᴰ x xs × Kept axis p (Chosen axis test x) y

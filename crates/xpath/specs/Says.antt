@@ -103,8 +103,8 @@ module _ (t : Tree) (e : Entries) (h : Holds e (whole t) 1 0 0) where
         there : ancestorOf n (e .fa) (pre x) (pre y) ≡ true → Ancestor x y
         there q =
             ⊎-elim (λ (l : pre x < pre y). ⊎-elim
-              (λ (m : pre y < e .ff (pre x)). below-ancestor x y (ff-below t e h x y l m))
-              (λ (g : e .ff (pre x) ≤ pre y). absurd (out (λ w. g))) (lt-or-ge (pre y) (e .ff (pre x))))
+            (λ (m : pre y < e .ff (pre x)). below-ancestor x y (ff-below t e h x y l m))
+            (λ (g : e .ff (pre x) ≤ pre y). absurd (out (λ w. g))) (lt-or-ge (pre y) (e .ff (pre x))))
             (λ (g : pre y ≤ pre x). absurd (out (λ w. absurd (omega arith)))) (lt-or-ge (pre x) (pre y))
           where
             out : (pre x < pre y → e .ff (pre x) ≤ pre y) → ⊥
@@ -169,22 +169,26 @@ module _ (t : Tree) (e : Entries) (h : Holds e (whole t) 1 0 0) where
 
   -- ---- the position
 
-  module _ (b : ℕ → Bool) (P : Node (whole t) → Type 0) (q : (y : Node (whole t)) → Says (b (pre y)) (P y)) where
+  module _ (axis : ℕ) (b : ℕ → Bool) (P : Node (whole t) → Type 0) (q : (y : Node (whole t)) → Says (b (pre y)) (P y)) where
     -- the elements that pass, up to y
     upto : (y : Node (whole t)) → (l : List (Node (whole t))) × Lists (λ z. P z × ((z ≡ y) ⊎ Before z y)) l × (length l ≡ length (upTo (pre y) b))
-    upto y = let s = selected {f = whole t} b (pre y) (pre-high y) in (s .0, record {
-      order = s .1 .order;
-      sound = λ z m. let w = s .1 .sound z m in (q z .says (w .0), ⊎-elim (λ (a : pre z ≡ pre y). inl (pre-injective z y a)) (λ (a : pre z < pre y). inr (pre-before z y a)) (eq-or-lt-of-le (w .1)));
-      complete = λ z w. s .1 .complete z (q z .holds (w .0)) (⊎-elim (λ (a : z ≡ y). omega (arith, ap pre a)) (λ (a : Before z y). omega (arith, before-pre z y a)) (w .1));
-    }, sym (ap length (s .1 .ranks) ∙ length-map (s .0) pre))
+    upto y = let s = selected {f = whole t} b (pre y) (pre-high y) in (
+      s .0,
+      record {
+        order = s .1 .order;
+        sound = λ z m. let w = s .1 .sound z m in (q z .says (w .0), ⊎-elim (λ (a : pre z ≡ pre y). inl (pre-injective z y a)) (λ (a : pre z < pre y). inr (pre-before z y a)) (eq-or-lt-of-le (w .1)));
+        complete = λ z w. s .1 .complete z (q z .holds (w .0)) (⊎-elim (λ (a : z ≡ y). omega (arith, ap pre a)) (λ (a : Before z y). omega (arith, before-pre z y a)) (w .1));
+      },
+      sym (ap length (s .1 .ranks) ∙ length-map (s .0) pre),
+    )
 
-    pub pth-says : (p : ℕ) (y : Node (whole t)) → Says (pth p b (pre y)) (Pth P p y)
+    pub pth-says : (p : ℕ) (y : Node (whole t)) → Says (pth axis p b (pre y)) (Pth axis P p y)
     unfolding pth
     pth-says p y = says-as (says-and (q y) (says-eqb (length (upTo (pre y) b)) p))
         (λ w. let s = upto y in (w .0, (s .0, s .1, s .2 ∙ w .1)))
         (λ w. let s = upto y in (w .0, sym (s .2) ∙ ap length (lists-unique _ _ _ (s .1) (w .1 .1)) ∙ w .1 .2))
 
-    pub kept-says : (p : ℕ) (y : Node (whole t)) → Says (kept p b (pre y)) (Kept p P y)
+    pub kept-says : (p : ℕ) (y : Node (whole t)) → Says (kept axis p b (pre y)) (Kept axis p P y)
     unfolding kept
     kept-says p y = picked (eqb p 0) (q y) (pth-says p y)
 
@@ -195,24 +199,27 @@ module _ (t : Tree) (e : Entries) (h : Holds e (whole t) 1 0 0) where
   unfolding some
   union-says axis test p [] y = record { says = λ z. absurd (false≢true z); holds = λ w. absurd (List·Memᴰ·not-nil (w .1)) }
   union-says axis test p (x ∷ xs) y =
-      says-as (says-or (kept-says (chosen axis n (e .fa) (e .name) test (pre x)) (Chosen axis test x) (chosen-says axis test x) p y) (union-says axis test p xs y)) there back
+      says-as (says-or (kept-says axis (chosen axis n (e .fa) (e .name) test (pre x)) (Chosen axis test x) (chosen-says axis test x) p y) (union-says axis test p xs y)) there back
     where
-      there : Kept p (Chosen axis test x) y ⊎ InUnion axis test p xs y → InUnion axis test p (x ∷ xs) y
+      there : Kept axis p (Chosen axis test x) y ⊎ InUnion axis test p xs y → InUnion axis test p (x ∷ xs) y
       there (inl k) = (x, List·Memᴰ·head refl, k)
       there (inr w) = (w .0, List·Memᴰ·tail (w .1), w .2)
 
-      back : InUnion axis test p (x ∷ xs) y → Kept p (Chosen axis test x) y ⊎ InUnion axis test p xs y
+      back : InUnion axis test p (x ∷ xs) y → Kept axis p (Chosen axis test x) y ⊎ InUnion axis test p xs y
       back w =
-          ⊎-elim (λ (a : w .0 ≡ x). inl (subst (λ (z : Node (whole t)). Kept p (Chosen axis test z) y) a (w .2)))
+          ⊎-elim (λ (a : w .0 ≡ x). inl (subst (λ (z : Node (whole t)). Kept axis p (Chosen axis test z) y) a (w .2)))
           (λ (m : List·Memᴰ (w .0) xs). inr (w .0, m, w .2)) (List·Memᴰ·cases-cons (w .1))
 
   -- the answer over ranks lists just the elements of the union, by their ranks
   pub union-listed : (axis test p : ℕ) (xs : List (Node (whole t)))
       → (l : List (Node (whole t))) × Lists (InUnion axis test p xs) l × (upTo n (inAnswer axis n (e .fa) (e .name) test p (map pre xs)) ≡ map pre l)
   union-listed axis test p xs =
-      let s = selected {f = whole t} (inAnswer axis n (e .fa) (e .name) test p (map pre xs)) n (omega arith) in
-      (s .0, record {
-        order = s .1 .order;
-        sound = λ y m. union-says axis test p xs y .says (s .1 .sound y m .0);
-        complete = λ y w. s .1 .complete y (union-says axis test p xs y .holds w) (pre-high y);
-      }, s .1 .ranks)
+      let s = selected {f = whole t} (inAnswer axis n (e .fa) (e .name) test p (map pre xs)) n (omega arith) in (
+        s .0,
+        record {
+          order = s .1 .order;
+          sound = λ y m. union-says axis test p xs y .says (s .1 .sound y m .0);
+          complete = λ y w. s .1 .complete y (union-says axis test p xs y .holds w) (pre-high y);
+        },
+        s .1 .ranks,
+      )

@@ -4,9 +4,8 @@
 --   up-none, up-one      nothing passes; two tests that differ at one rank
 --   up-grows             more ranks select no less
 --   up-length            no more are selected than there are
---   up-written           where a room holds what is selected up to i at its front, one more store makes it up to i + 1
---   some-yes, some-no    one passes, where the list has one that passes; none passes, where none of the list does
---   some-more            one more of a list
+--   front-store, front-length   one more store at the end of what stands at the front of a room
+--   some-append, some-more, some-all, some-same   whether one of a list passes, with one more of it, all of it, and for two tests
 use Prim.Native.Nat.{ℕ, zero, suc, _+_, _≤_, _<_}
 use mathlib.Core.Path.{_≡_, refl, ap, _∙_, sym, subst}
 use mathlib.Core.List.{List, [], _∷_, _++_, append-assoc}

@@ -225,18 +225,18 @@ module _ (n : ℕ) (e : Entries) (f : Facts n e) (small : n ≤ 4096) (P : ℕ �
   unfolding onAxis
   spread-descendant reach g =
       ⊎-elim (λ (w : j < reach). lt-ltb j reach w ∙ sym (⊎-elim (λ (z : reach ≡ 0). absurd (omega arith))
-        (λ (s : (c : ℕ) × Seen P 1 j c × (e .ff c ≡ reach)). hit 2 (s .0) (s .1 .low) (omega (arith, s .1 .high)) (s .1 .passes)
-          (inside-yes n e f n (s .0) j (s .1 .low) (s .1 .high) h h (omega (arith, s .2)))) (g .met)))
+      (λ (s : (c : ℕ) × Seen P 1 j c × (e .ff c ≡ reach)). hit 2 (s .0) (s .1 .low) (omega (arith, s .1 .high)) (s .1 .passes)
+      (inside-yes n e f n (s .0) j (s .1 .low) (s .1 .high) h h (omega (arith, s .2)))) (g .met)))
       (λ (w : reach ≤ j). le-ltb j reach w ∙ sym (none 2 (λ c a b p. inside-no n e f n c j a l h
-        (λ m. omega (arith, g .bound c (record { low = a; high = m; passes = p }))))))
+      (λ m. omega (arith, g .bound c (record { low = a; high = m; passes = p }))))))
       (lt-or-ge j reach)
 
   pub spread-following : (least : ℕ) → Least (Seen P 1 j) (e .ff) least → ltb least (j + 1) ≡ spreadOf 7 n (e .fa) P j
   unfolding onAxis
   spread-following least g =
       ⊎-elim (λ (w : least < j + 1). lt-ltb least (j + 1) w ∙ sym (⊎-elim (λ (z : least ≡ 65535). absurd (omega arith))
-        (λ (s : (c : ℕ) × Seen P 1 j c × (e .ff c ≡ least)). hit 7 (s .0) (s .1 .low) (omega (arith, s .1 .high)) (s .1 .passes)
-          (whole-yes n e f (s .0) j (s .1 .low) (omega (arith, s .1 .high)) h (omega (arith, s .2)))) (g .met)))
+      (λ (s : (c : ℕ) × Seen P 1 j c × (e .ff c ≡ least)). hit 7 (s .0) (s .1 .low) (omega (arith, s .1 .high)) (s .1 .passes)
+      (whole-yes n e f (s .0) j (s .1 .low) (omega (arith, s .1 .high)) h (omega (arith, s .2)))) (g .met)))
       (λ (w : j + 1 ≤ least). le-ltb least (j + 1) w ∙ sym (none 7 (λ c a b p. whole-no n e f c j a b h (past w c a b p))))
       (lt-or-ge least (j + 1))
     where
@@ -249,10 +249,10 @@ module _ (n : ℕ) (e : Entries) (f : Facts n e) (small : n ≤ 4096) (P : ℕ �
   spread-ancestor next g =
       let top = f .each j l h .ff-high in
       ⊎-elim (λ (w : next < e .ff j). lt-ltb next (e .ff j) w ∙ sym (⊎-elim (λ (z : next ≡ 65535). absurd (omega (arith, top)))
-        (λ (s : (c : ℕ) × Seen P (j + 1) (n + 1) c × (c ≡ next)). hit 5 (s .0) (omega (arith, s .1 .low)) (omega (arith, s .1 .high)) (s .1 .passes)
-          (inside-yes n e f n j (s .0) l (omega (arith, s .1 .low)) (omega (arith, s .1 .high)) (omega (arith, s .1 .high)) (omega (arith, s .2)))) (g .met)))
+      (λ (s : (c : ℕ) × Seen P (j + 1) (n + 1) c × (c ≡ next)). hit 5 (s .0) (omega (arith, s .1 .low)) (omega (arith, s .1 .high)) (s .1 .passes)
+      (inside-yes n e f n j (s .0) l (omega (arith, s .1 .low)) (omega (arith, s .1 .high)) (omega (arith, s .1 .high)) (omega (arith, s .2)))) (g .met)))
       (λ (w : e .ff j ≤ next). le-ltb next (e .ff j) w ∙ sym (none 5 (λ c a b p. inside-no n e f n j c l a b
-        (λ m. omega (arith, g .bound c (record { low = omega arith; high = omega arith; passes = p }))))))
+      (λ m. omega (arith, g .bound c (record { low = omega arith; high = omega arith; passes = p }))))))
       (lt-or-ge next (e .ff j))
 
   pub spread-preceding : (last : ℕ) → Greatest (Seen P (j + 1) (n + 1)) (λ c. c) last → ltb (e .ff j) (last + 1) ≡ spreadOf 8 n (e .fa) P j
@@ -260,8 +260,8 @@ module _ (n : ℕ) (e : Entries) (f : Facts n e) (small : n ≤ 4096) (P : ℕ �
   spread-preceding last g =
       let low = f .each j l h .ff-low in
       ⊎-elim (λ (w : e .ff j < last + 1). lt-ltb (e .ff j) (last + 1) w ∙ sym (⊎-elim (λ (z : last ≡ 0). absurd (omega (arith, low)))
-        (λ (s : (c : ℕ) × Seen P (j + 1) (n + 1) c × (c ≡ last)). hit 8 (s .0) (omega (arith, s .1 .low)) (omega (arith, s .1 .high)) (s .1 .passes)
-          (whole-yes n e f j (s .0) l h (omega (arith, s .1 .high)) (omega (arith, s .2)))) (g .met)))
+      (λ (s : (c : ℕ) × Seen P (j + 1) (n + 1) c × (c ≡ last)). hit 8 (s .0) (omega (arith, s .1 .low)) (omega (arith, s .1 .high)) (s .1 .passes)
+      (whole-yes n e f j (s .0) l h (omega (arith, s .1 .high)) (omega (arith, s .2)))) (g .met)))
       (λ (w : last + 1 ≤ e .ff j). le-ltb (e .ff j) (last + 1) w ∙ sym (none 8 (λ c a b p. whole-no n e f j c l h b (past w c a b p))))
       (lt-or-ge (e .ff j) (last + 1))
     where

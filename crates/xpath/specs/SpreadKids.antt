@@ -1,6 +1,7 @@
 -- Parents and siblings in one pass: which elements are the parent of a context that was seen.
 --   Kids S up n B      B passes just the ranks from 1 to n that are the parent of one in S
 --   kids-none          nothing is seen yet
+--   kids-hit, kids-miss   one more is seen
 --   spread-parent, spread-later, spread-earlier   the parent axis and the two sibling axes
 use Prim.Native.Nat.{ℕ, _+_, _≤_, _<_}
 use mathlib.Core.Path.{_≡_, refl, ap, _∙_, sym}
@@ -14,7 +15,7 @@ use Rattle.trees.specs.Order.{lt-or-ge}
 use Rattle.trees.specs.Signature.{Entries}
 use Rattle.trees.specs.Facts.{Facts}
 use Rattle.xpath.specs.Axes.{parentOf, siblingBefore, onAxis}
-use Rattle.xpath.specs.Spread.{spreadOf, Seen, hit, none}
+use Rattle.xpath.specs.Spread.{spreadOf, Seen, More, hit, none}
 
 pub record Kids (S : ℕ → Type 0) (up : ℕ → ℕ) (n : ℕ) (B : ℕ → Bool) : Type 0 where
   pub yes : (c : ℕ) → S c → 1 ≤ up c → up c ≤ n → B (up c) ≡ true
@@ -25,6 +26,34 @@ kids-none P lo up n B h = record {
   yes = λ c s a b. absurd (omega (arith, s .low, s .high));
   no = λ p a b q. absurd (false≢true (sym (h p a b) ∙ q));
 }
+
+-- one more is seen, rank k; where it passes, its parent passes from now on
+module _ {S T : ℕ → Type 0} {P : ℕ → Bool} {k : ℕ} (m : More S T P k) (up : ℕ → ℕ) (n : ℕ) (B : ℕ → Bool) (h : Kids S up n B) where
+  pub kids-hit : P k ≡ true → (C : ℕ → Bool) → (up k ≤ n → C (up k) ≡ true) → ((p : ℕ) → (p ≡ up k → ⊥) → C p ≡ B p) → Kids T up n C
+  kids-hit q C own other = record { yes = there; no = back }
+    where
+      there : (c : ℕ) → T c → 1 ≤ up c → up c ≤ n → C (up c) ≡ true
+      there c t a b = ⊎-elim (λ (s : S c). old s (ℕ-discrete (up c) (up k))) (λ (w : (c ≡ k) × (P k ≡ true)). new (ap up (w .0))) (m .split c t)
+        where
+          new : up c ≡ up k → C (up c) ≡ true
+          new e = ap C e ∙ own (omega arith)
+
+          old : S c → Dec (up c ≡ up k) → C (up c) ≡ true
+          old s (yes e) = new e
+          old s (no e) = other (up c) e ∙ h .yes c s a b
+
+      back : (p : ℕ) → 1 ≤ p → p ≤ n → C p ≡ true → (c : ℕ) × T c × (up c ≡ p)
+      back p a b r = go (ℕ-discrete p (up k))
+        where
+          go : Dec (p ≡ up k) → (c : ℕ) × T c × (up c ≡ p)
+          go (yes e) = (k, m .own q, sym e)
+          go (no e) = let s = h .no p a b (sym (other p e) ∙ r) in (s .0, m .kept (s .0) (s .1), s .2)
+
+  pub kids-miss : P k ≡ false → Kids T up n B
+  kids-miss q = record {
+    yes = λ c t a b. ⊎-elim (λ (s : S c). h .yes c s a b) (λ (w : (c ≡ k) × (P k ≡ true)). absurd (false≢true (sym q ∙ w .1))) (m .split c t);
+    no = λ p a b r. let s = h .no p a b r in (s .0, m .kept (s .0) (s .1), s .2);
+  }
 
 module _ (up : ℕ → ℕ) (a j : ℕ) where
   sibling-yes : a < j → (up a ≡ 0 → ⊥) → up j ≡ up a → siblingBefore up a j ≡ true

@@ -1,50 +1,40 @@
-use mathlib.Core.Path.{_≡_, refl, sym, ap, _∙_}
-use Rattle.axes.proofs.Calls.{ready-of, after-accepted, after-refused, leaves-as}
-use native.Mathlib.Omega.{arith}
+-- Position 0 is the call without a position.
+use mathlib.Core.Path.{ap}
+use Prim.Native.Nat.{ℕ}
 use borrow.Author.Needs.{needs}
+use Rattle.marks.specs.Axis.{axisAnswer}
+use Rattle.marks.proofs.Calls.{leaves-as}
 use Rattle.axes.proofs.axis.Statement.{statement}
 use Rattle.axes.proofs.axis.Tie as tie
-use Rattle.axes.proofs.axis.Reads as reads
-use Rattle.axes.proofs.axis.Lts as lts
-use Rattle.axes.proofs.axis_within.Reads as axis-within-reads
-use Rattle.checking.proofs.check_whole.Reads as check-whole-reads
 
--- src/lib.rt:393:9
-check-whole-requires : tie.Need-check-whole-requires
-check-whole-requires c κs = search needs
+axis-without-position-requires : tie.Need-axis-without-position-requires
+axis-without-position-requires c κs = search needs
 
--- src/lib.rt:395:79
-enum-told : tie.Need-enum-told
-enum-told c = search needs
-
--- src/lib.rt:395:30
-axis-within-requires : tie.Need-axis-within-requires
-axis-within-requires c κs = ready-of _ _ (c .before .before .before .check-whole .ensures) (c .before .enum-told .given .1)
-
--- src/lib.rt:396:26
-enum-known-verdict : tie.Need-enum-known-verdict
-enum-known-verdict c = search needs
-
--- src/lib.rt:390:1
 same-length : tie.Need-same-length
 same-length c = search needs
 
--- src/lib.rt:390:1
 returns : tie.Need-returns
-returns c = leaves-as _ _ _ _ (after-accepted _ _ _ _ (c .before .before .before .before .before .before .check-whole .ensures) (c .before .before .before .before .enum-told .given .1)) (c .before .before .axis-within .ensures)
+returns c =
+    let a = c .before .before .before .before .before .before .before .before .args in
+    leaves-as _ _ _ _ (ap (λ (p : ℕ). axisAnswer (a .sig .now) (a .contexts .now) (a .axis) (a .name) p (a .room .now)) (c .before .before .before .before .if1 .taken))
+    (c .before .before .axis-without-position .ensures)
 
--- src/lib.rt:390:1
+axis-with-position-requires : tie.Need-axis-with-position-requires
+axis-with-position-requires c κs = search needs
+
+same-length-2 : tie.Need-same-length-2
+same-length-2 c = search needs
+
 returns-2 : tie.Need-returns-2
-returns-2 c = leaves-as _ _ _ _ (after-refused _ _ _ _ _ (c .before .before .before .check-whole .ensures) (c .before .verdict .given .1)) (record { said = refl; left = refl })
+returns-2 c = search needs
 
 pub axis-spec : {M : Type 1} → statement M
 axis-spec =
     tie.close
     (tie.spec
-    check-whole-requires
-    enum-told
-    axis-within-requires
-    enum-known-verdict
+    axis-without-position-requires
     same-length
     returns
+    axis-with-position-requires
+    same-length-2
     returns-2)

@@ -1,99 +1,83 @@
-use mathlib.Core.Path.{_≡_, refl, sym, ap, _∙_}
-use Prim.Native.Nat.{ℕ, _+_, _-_, _≤_, _<_}
+-- The count is that of the chosen elements up to j, and of those the kept ones have a mark.
+use mathlib.Core.Path.{_≡_, refl, sym, _∙_}
+use Prim.Native.Nat.{_-_, _≤_}
 use lib.ListN.{length, length-set}
-use Rattle.xpath.specs.Select.{upTo, some, rises, within}
-use Rattle.axes.specs.Marks.{marked, Marks, keptAt}
+use lib.Dec.{leb}
+use Rattle.xpath.specs.Select.{upTo}
 use Rattle.trees.specs.Signature.{entriesOf, width}
-use Rattle.xpath.specs.Axes.{kept, chosen, levelOf, inAnswer}
-use Rattle.axes.proofs.Marking.{Partly, part-none, part-hit, part-miss, part-done, count-yes, count-no, count-kept}
+use Rattle.xpath.specs.Axes.{kept, chosen}
+use Rattle.marks.proofs.Marking.{Over, part-none, part-hit, part-miss, part-done, count-yes, count-no}
+use Rattle.axes.proofs.Marking.{count-kept}
 use Rattle.xpath.specs.SelectLaws.{up-length}
 use Rattle.xpath.specs.Kept.{kept-other}
 use native.Mathlib.Omega.{arith}
 use borrow.Author.Needs.{needs}
 use Rattle.axes.proofs.mark_context.Statement.{statement}
 use Rattle.axes.proofs.mark_context.Tie as tie
-use Rattle.axes.proofs.mark_context.Reads as reads
-use Rattle.axes.proofs.mark_context.Lts as lts
-use Rattle.axes.proofs.is_chosen.Reads as is-chosen-reads
-use Rattle.axes.proofs.is_kept.Reads as is-kept-reads
 
 abbrev Inv-loop : tie.InvT-loop
 Inv-loop sig n axis test p c marks₀ met₀ j₀ marks met j =
     (j ≤ n) × (met ≡ length (upTo j (chosen axis n (entriesOf width sig .fa) (entriesOf width sig .name) test c)))
     × (length marks ≡ 4097)
-    × Partly n (kept p (chosen axis n (entriesOf width sig .fa) (entriesOf width sig .name) test c)) j marks₀ marks
+    × Over n (λ i. leb i j) (kept axis p (chosen axis n (entriesOf width sig .fa) (entriesOf width sig .name) test c)) marks₀ marks
 
 abbrev μ-loop : tie.MeasureT-loop
 μ-loop sig n axis test p c marks₀ met₀ j₀ marks met j = n - j
 
--- src/lib.rt:272:5
 loop-holds : tie.Need-loop-holds Inv-loop μ-loop
 unfolding upTo
 loop-holds c = ((omega arith), refl, c .before .pre .4, part-none _ _ _)
 
--- src/lib.rt:273:9
 add-j : tie.Need-add-j Inv-loop μ-loop
 add-j c = search needs
 
--- src/lib.rt:274:12
 is-chosen-requires : tie.Need-is-chosen-requires Inv-loop μ-loop
 is-chosen-requires c κs = search needs
 
--- src/lib.rt:275:13
 add-met : tie.Need-add-met Inv-loop μ-loop
 add-met c = let a = c .before .before .before .before .before .args in omega (arith, c .before .before .before .before .before .pre .0 .small, up-length (chosen (a .axis) (a .n) (entriesOf width (a .sig .now) .fa) (entriesOf width (a .sig .now) .name) (a .test) (a .c)) (c .before .before .before .loop .j))
 
--- src/lib.rt:276:16
 is-kept-requires : tie.Need-is-kept-requires Inv-loop μ-loop
 is-kept-requires c κs = search needs
 
--- src/lib.rt:277:26
 cast-at : tie.Need-cast-at Inv-loop μ-loop
 cast-at c = search needs
 
--- src/lib.rt:278:17
 element-write-marks : tie.Need-element-write-marks Inv-loop μ-loop
 element-write-marks c = search needs
 
--- src/lib.rt:272:5
 loop-less : tie.Need-loop-less Inv-loop μ-loop
 loop-less c = omega arith
 
--- src/lib.rt:272:5
 loop-again : tie.Need-loop-again Inv-loop μ-loop
-loop-again c = 
+loop-again c =
     let a = c .before .before .before .before .before .before .before .args in
     let l = c .before .before .before .before .before .loop in
     let h = sym (c .before .before .before .is-chosen .ensures) ∙ c .before .before .if1 .taken in
     let k = count-yes (chosen (a .axis) (a .n) (entriesOf width (a .sig .now) .fa) (entriesOf width (a .sig .now) .name) (a .test) (a .c)) _ _ h (l .inv .1) in
-    ((omega arith), k, simp length-set (l .inv .2), part-hit _ _ _ _ _ (l .inv .3) (count-kept (a .p) (chosen (a .axis) (a .n) (entriesOf width (a .sig .now) .fa) (entriesOf width (a .sig .now) .name) (a .test) (a .c)) _ _ h k ∙ sym (c .before .is-kept .ensures) ∙ c .if2 .taken) (omega (arith, l .inv .2, c .before .before .before .before .before .before .before .pre .0 .small)))
+    ((omega arith), k, simp length-set (l .inv .2), part-hit _ _ _ _ _ (l .inv .3) (count-kept (a .axis) (a .p) (chosen (a .axis) (a .n) (entriesOf width (a .sig .now) .fa) (entriesOf width (a .sig .now) .name) (a .test) (a .c)) _ _ h k ∙ sym (c .before .is-kept .ensures) ∙ c .if2 .taken) (omega (arith, l .inv .2, c .before .before .before .before .before .before .before .pre .0 .small)))
 
--- src/lib.rt:272:5
 loop-less-2 : tie.Need-loop-less-2 Inv-loop μ-loop
 loop-less-2 c = omega arith
 
--- src/lib.rt:272:5
 loop-again-2 : tie.Need-loop-again-2 Inv-loop μ-loop
-loop-again-2 c = 
+loop-again-2 c =
     let a = c .before .before .before .before .before .before .before .args in
     let l = c .before .before .before .before .before .loop in
     let h = sym (c .before .before .before .is-chosen .ensures) ∙ c .before .before .if1 .taken in
     let k = count-yes (chosen (a .axis) (a .n) (entriesOf width (a .sig .now) .fa) (entriesOf width (a .sig .now) .name) (a .test) (a .c)) _ _ h (l .inv .1) in
-    ((omega arith), k, l .inv .2, part-miss _ _ _ _ _ (l .inv .3) (count-kept (a .p) (chosen (a .axis) (a .n) (entriesOf width (a .sig .now) .fa) (entriesOf width (a .sig .now) .name) (a .test) (a .c)) _ _ h k ∙ sym (c .before .is-kept .ensures) ∙ c .if2 .left))
+    ((omega arith), k, l .inv .2, part-miss _ _ _ _ _ (l .inv .3) (count-kept (a .axis) (a .p) (chosen (a .axis) (a .n) (entriesOf width (a .sig .now) .fa) (entriesOf width (a .sig .now) .name) (a .test) (a .c)) _ _ h k ∙ sym (c .before .is-kept .ensures) ∙ c .if2 .left))
 
--- src/lib.rt:272:5
 loop-less-3 : tie.Need-loop-less-3 Inv-loop μ-loop
 loop-less-3 c = omega arith
 
--- src/lib.rt:272:5
 loop-again-3 : tie.Need-loop-again-3 Inv-loop μ-loop
-loop-again-3 c = 
+loop-again-3 c =
     let a = c .before .before .before .before .before .args in
     let l = c .before .before .before .loop in
     let h = sym (c .before .is-chosen .ensures) ∙ c .if1 .left in
-    ((omega arith), count-no (chosen (a .axis) (a .n) (entriesOf width (a .sig .now) .fa) (entriesOf width (a .sig .now) .name) (a .test) (a .c)) _ _ h (l .inv .1), l .inv .2, part-miss _ _ _ _ _ (l .inv .3) (kept-other (a .p) (chosen (a .axis) (a .n) (entriesOf width (a .sig .now) .fa) (entriesOf width (a .sig .now) .name) (a .test) (a .c)) _ h))
+    ((omega arith), count-no (chosen (a .axis) (a .n) (entriesOf width (a .sig .now) .fa) (entriesOf width (a .sig .now) .name) (a .test) (a .c)) _ _ h (l .inv .1), l .inv .2, part-miss _ _ _ _ _ (l .inv .3) (kept-other (a .axis) (a .p) (chosen (a .axis) (a .n) (entriesOf width (a .sig .now) .fa) (entriesOf width (a .sig .now) .name) (a .test) (a .c)) _ h))
 
--- src/lib.rt:266:1
 returns : tie.Need-returns Inv-loop μ-loop
 returns c = part-done _ _ _ _ _ (omega arith) (c .before .loop .inv .2) (c .before .loop .inv .3)
 

@@ -1,65 +1,54 @@
-use mathlib.Core.Path.{_≡_, refl, sym, ap, _∙_}
-use Prim.Native.Nat.{ℕ, _+_, _-_, _≤_, _<_}
-use lib.ListN.{length, getD, drop, take}
+-- What is kept for the first k contexts has a mark.
+use Prim.Native.Nat.{_-_, _≤_}
+use lib.ListN.{length}
 use Rattle.trees.specs.Signature.{entriesOf, width}
-use Rattle.xpath.specs.Axes.{kept, chosen, levelOf, inAnswer}
-use Rattle.axes.proofs.Marking.{Each, each-none, each-more, each-done}
+use Rattle.xpath.specs.Axes.{kept, chosen}
+use Rattle.one_pass.proofs.Contexts.{Each, each-none, each-more, each-done}
 use Rattle.xpath.specs.Rising.{within-at}
 use native.Mathlib.Omega.{arith}
 use borrow.Author.Needs.{needs}
 use Rattle.axes.proofs.mark_each.Statement.{statement}
 use Rattle.axes.proofs.mark_each.Tie as tie
-use Rattle.axes.proofs.mark_each.Reads as reads
-use Rattle.axes.proofs.mark_each.Lts as lts
-use Rattle.axes.proofs.mark_context.Reads as mark-context-reads
 
 abbrev Inv-loop : tie.InvT-loop
 Inv-loop sig n contexts axis test p marks₀ k₀ marks k =
-    (k ≤ length contexts) × Each n (λ x. kept p (chosen axis n (entriesOf width sig .fa) (entriesOf width sig .name) test x)) contexts k marks
+    (k ≤ length contexts) × Each n (λ x. kept axis p (chosen axis n (entriesOf width sig .fa) (entriesOf width sig .name) test x)) contexts k marks
 
 abbrev μ-loop : tie.MeasureT-loop
 μ-loop sig n contexts axis test p marks₀ k₀ marks k = length contexts - k
 
--- src/lib.rt:290:5
 loop-holds : tie.Need-loop-holds Inv-loop μ-loop
-loop-holds c = 
+loop-holds c =
     let a = c .before .before .args in
-    ((omega arith), each-none (a .n) (λ x. kept (a .p) (chosen (a .axis) (a .n) (entriesOf width (a .sig .now) .fa) (entriesOf width (a .sig .now) .name) (a .test) x)) (a .contexts .now) _ (c .before .before .pre .3))
+    ((omega arith), each-none (a .n) (λ x. kept (a .axis) (a .p) (chosen (a .axis) (a .n) (entriesOf width (a .sig .now) .fa) (entriesOf width (a .sig .now) .name) (a .test) x)) (a .contexts .now) _ (c .before .before .pre .3))
 
--- src/lib.rt:291:17
 mul-c : tie.Need-mul-c Inv-loop μ-loop
 mul-c c = search needs
 
--- src/lib.rt:291:17
 shared-slice-read-c : tie.Need-shared-slice-read-c Inv-loop μ-loop
 shared-slice-read-c c = search needs
 
--- src/lib.rt:292:9
 mark-context-requires : tie.Need-mark-context-requires Inv-loop μ-loop
-mark-context-requires c κs = 
+mark-context-requires c κs =
     let a = c .before .before .before .before .before .before .args in
     let r = within-at (a .n) (a .contexts .now) (c .before .before .before .before .before .before .pre .2) (c .before .before .before .loop .k) (omega arith) in
     (c .before .before .before .before .before .before .pre .0, c .before .before .before .before .before .before .pre .1, r .low, r .high, c .before .before .before .loop .inv .1 .long)
 
--- src/lib.rt:293:9
 add-k : tie.Need-add-k Inv-loop μ-loop
 add-k c = search needs
 
--- src/lib.rt:290:5
 loop-less : tie.Need-loop-less Inv-loop μ-loop
 loop-less c = omega arith
 
--- src/lib.rt:290:5
 loop-again : tie.Need-loop-again Inv-loop μ-loop
-loop-again c = 
+loop-again c =
     let a = c .before .before .before .before .before .before .before .args in
-    ((omega arith), each-more (a .n) (λ x. kept (a .p) (chosen (a .axis) (a .n) (entriesOf width (a .sig .now) .fa) (entriesOf width (a .sig .now) .name) (a .test) x)) (a .contexts .now) (c .before .before .before .before .loop .k) _ _ (omega arith) (c .before .before .before .before .loop .inv .1) (c .mark-context .ensures))
+    ((omega arith), each-more (a .n) (λ x. kept (a .axis) (a .p) (chosen (a .axis) (a .n) (entriesOf width (a .sig .now) .fa) (entriesOf width (a .sig .now) .name) (a .test) x)) (a .contexts .now) (c .before .before .before .before .loop .k) _ _ (omega arith) (c .before .before .before .before .loop .inv .1) (c .mark-context .ensures))
 
--- src/lib.rt:285:1
 returns : tie.Need-returns Inv-loop μ-loop
-returns c = 
+returns c =
     let a = c .before .before .before .before .args in
-    each-done (a .n) (λ x. kept (a .p) (chosen (a .axis) (a .n) (entriesOf width (a .sig .now) .fa) (entriesOf width (a .sig .now) .name) (a .test) x)) (a .contexts .now) (c .before .loop .k) _ (omega arith) (c .before .loop .inv .1)
+    each-done (a .n) (λ x. kept (a .axis) (a .p) (chosen (a .axis) (a .n) (entriesOf width (a .sig .now) .fa) (entriesOf width (a .sig .now) .name) (a .test) x)) (a .contexts .now) (c .before .loop .k) _ (omega arith) (c .before .loop .inv .1)
 
 pub mark-each-spec : {M : Type 1} → statement M
 mark-each-spec =

@@ -1,0 +1,4 @@
+pub mod Contexts
+pub mod Passes
+pub mod Unions
+pub mod Numbered

@@ -1,0 +1,56 @@
+-- The loop goes through a range.
+use native.Mathlib.Omega.{arith}
+use borrow.Author.Needs.{needs}
+use Prim.Native.Nat.{_-_, _≤_}
+use Rattle.tried_axes.proofs.each_axis_ends.Statement.{statement}
+use Rattle.tried_axes.proofs.each_axis_ends.Tie as tie
+use Rattle.tried_axes.proofs.each_axis_ends.Reads as reads
+use Rattle.tried_axes.proofs.each_axis_ends.Lts as lts
+use Rattle.io.proofs.write_all.Reads as write-all-reads
+use Rattle.tried_axes.proofs.end_line.Reads as end-line-reads
+use Rattle.tried_axes.proofs.ends.Reads as ends-reads
+
+abbrev Inv-loop : tie.InvT-loop
+Inv-loop label sig contexts position axis₀ axis = axis ≤ 11
+
+abbrev μ-loop : tie.MeasureT-loop
+μ-loop label sig contexts position axis₀ axis = 11 - axis
+
+write-all-requires : tie.Need-write-all-requires Inv-loop μ-loop
+write-all-requires c κs = search needs
+
+loop-holds : tie.Need-loop-holds Inv-loop μ-loop
+loop-holds c = search needs
+
+ends-requires : tie.Need-ends-requires Inv-loop μ-loop
+ends-requires c κs = search needs
+
+add-axis : tie.Need-add-axis Inv-loop μ-loop
+add-axis c = search needs
+
+loop-less : tie.Need-loop-less Inv-loop μ-loop
+loop-less c = search needs
+
+loop-again : tie.Need-loop-again Inv-loop μ-loop
+loop-again c = search needs
+
+end-line-requires : tie.Need-end-line-requires Inv-loop μ-loop
+end-line-requires c κs = search needs
+
+returns : tie.Need-returns Inv-loop μ-loop
+returns c = search needs
+
+pub each-axis-ends-spec : {M : Type 1} → statement M
+each-axis-ends-spec =
+    tie.close
+    (tie.spec
+    Inv-loop
+    μ-loop
+    write-all-requires
+    loop-holds
+    ends-requires
+    add-axis
+    loop-less
+    loop-again
+    end-line-requires
+    returns)

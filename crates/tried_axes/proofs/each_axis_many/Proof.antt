@@ -1,0 +1,46 @@
+-- The loop goes through a range.
+use native.Mathlib.Omega.{arith}
+use borrow.Author.Needs.{needs}
+use Prim.Native.Nat.{_-_, _≤_}
+use Rattle.tried_axes.proofs.each_axis_many.Statement.{statement}
+use Rattle.tried_axes.proofs.each_axis_many.Tie as tie
+use Rattle.tried_axes.proofs.each_axis_many.Reads as reads
+use Rattle.tried_axes.proofs.each_axis_many.Lts as lts
+use Rattle.tried_axes.proofs.many_contexts.Reads as many-contexts-reads
+
+abbrev Inv-loop : tie.InvT-loop
+Inv-loop sig axis₀ axis = axis ≤ 11
+
+abbrev μ-loop : tie.MeasureT-loop
+μ-loop sig axis₀ axis = 11 - axis
+
+loop-holds : tie.Need-loop-holds Inv-loop μ-loop
+loop-holds c = search needs
+
+many-contexts-requires : tie.Need-many-contexts-requires Inv-loop μ-loop
+many-contexts-requires c κs = search needs
+
+add-axis : tie.Need-add-axis Inv-loop μ-loop
+add-axis c = search needs
+
+loop-less : tie.Need-loop-less Inv-loop μ-loop
+loop-less c = search needs
+
+loop-again : tie.Need-loop-again Inv-loop μ-loop
+loop-again c = search needs
+
+returns : tie.Need-returns Inv-loop μ-loop
+returns c = search needs
+
+pub each-axis-many-spec : {M : Type 1} → statement M
+each-axis-many-spec =
+    tie.close
+    (tie.spec
+    Inv-loop
+    μ-loop
+    loop-holds
+    many-contexts-requires
+    add-axis
+    loop-less
+    loop-again
+    returns)
