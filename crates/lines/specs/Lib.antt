@@ -1,0 +1,4 @@
+-- Lines: what the listing program prints.
+pub mod Lines
+pub mod Question
+pub mod Listing

@@ -1,0 +1,124 @@
+-- Input that is not refused is a question: its two trees are accepted, and the table is prepared.
+--   Question b        neither list of b is refused
+--   question-accepted the whole check accepts both signatures
+--   table-prepared    start call and one turn of preparing come to the end
+use Prim.Native.Nat.{ℕ, _+_, _*_, _≤_, _<_}
+use mathlib.Core.Path.{_≡_, refl, sym, subst}
+use mathlib.Core.Logic.{_⊎_, inl, inr}
+use mathlib.Core.Bool.{Bool, true, false}
+use mathlib.Core.List.{List}
+use native.Mathlib.Omega.{arith}
+use lib.ListN.{length, drop, replicate}
+use lib.Seq.{getD-drop}
+use borrow.Author.Tests.{ne-eqb, le-leb}
+use Rattle.turns.specs.Turn.{Halt, Turned}
+use Rattle.turns.specs.Chains.{one}
+use Rattle.checking.specs.declared.Kind.{Kind}
+use Rattle.checking.specs.declared.Stop.{Stop}
+use Rattle.checking.specs.declared.Verdict.{Verdict}
+use Rattle.checking.specs.Kinds.{anyName, most}
+use Rattle.checking.specs.Stops.{haltTold, verdictTold}
+use Rattle.checking.specs.Rule.{fresh}
+use Rattle.checking.specs.Turn.{turnOf}
+use Rattle.checking.specs.Whole.{WholePromise}
+use Rattle.checked.specs.Yields.{Yields, entries}
+use Rattle.checked.specs.Wholly.{accepted-tree}
+use Rattle.bytes_read.specs.Scans.{haltNumber}
+use Rattle.tag_lists.specs.TagLists.{treeScan, numbersIn}
+use Rattle.retold.specs.Taken.{Bytes}
+use Rattle.retold.specs.Sound.{scan-sound}
+use Rattle.retold.specs.There.{yields-accepted}
+use Rattle.preparing.specs.declared.Started.{Started}
+use Rattle.preparing.specs.Masks.{tableWidth}
+use Rattle.preparing.specs.Preparing.{Preparing}
+use Rattle.preparing.specs.PrepTurn.{cleared, startFault, StartPromise, prepAt, underway, prepTurnOf}
+use Rattle.listed.specs.Questions.{Accepted, Prepared}
+use Rattle.listed.specs.Given.{accepted-grounds}
+use Rattle.listed.specs.Prepared.{Done, Short, prepare-ends}
+use Rattle.listed.specs.Cases.{prepBack, prep-handed}
+use Rattle.lines.specs.Question.{prepBudget, tableOf}
+use Rattle.lines.specs.Listing.{mostBytes, dataScan, dataFault, dataOf, restOf, twigFault, twigOf}
+
+-- ---- the two trees
+
+-- the input is bytes, not too long, and neither list is refused
+pub record Question (b : List ℕ) : Type 0 where
+  pub bytes : Bytes b
+  pub short : length b ≤ mostBytes
+  pub data-fine : dataFault b ≡ 0
+  pub twig-fine : twigFault (restOf b) ≡ 0
+
+-- what a scan that refused nothing has read is the signature of a tree
+scan-yields : (all : Bool) (k : Kind) (b : List ℕ) → Bytes b → haltNumber (treeScan all (anyName k) (most k) b 0 .halt) ≡ 0
+    → Yields k (numbersIn b 0 (treeScan all (anyName k) (most k) b 0 .state .count))
+scan-yields all k b h z =
+    let r = scan-sound all (anyName k) (most k) b h 0 z in record { tree = r .tree; grown = r .grown; is = r .numbers }
+
+halt-accepted : (h : Halt) → haltTold h .reason ≡ 1 → verdictTold Verdict.Accepted ≡ haltTold h
+halt-accepted Halt.answer q = absurd (omega arith)
+halt-accepted Halt.end q = refl
+halt-accepted Halt.budget q = absurd (omega arith)
+halt-accepted (Halt.refusal number entry) q = absurd (omega arith)
+
+yields-promise : (k : Kind) (s : List ℕ) → Yields k s → WholePromise k s Verdict.Accepted
+yields-promise k s y = halt-accepted (turnOf k s (2 * most k + 1) fresh .halt) (yields-accepted k s y)
+
+rest-bytes : (b : List ℕ) (k : ℕ) → Bytes b → Bytes (drop k b)
+rest-bytes b k h i = subst (λ (x : ℕ). x < 256) (sym (getD-drop k b i 0)) (h (k + i))
+
+pub question-accepted : (b : List ℕ) → Question b → Accepted (dataOf b) (twigOf (restOf b))
+question-accepted b q = record {
+  data-tree = yields-promise Kind.Data (dataOf b) (scan-yields false Kind.Data b (q .bytes) (q .data-fine));
+  twig = yields-promise Kind.Twig (twigOf (restOf b))
+      (scan-yields true Kind.Twig (restOf b) (rest-bytes b (dataScan b .state .at) (q .bytes)) (q .twig-fine));
+}
+
+-- ---- the table
+
+start-fine : (n room : ℕ) → 1 ≤ n → n ≤ 4096 → 2 * n ≤ room → startFault n room ≡ 0
+unfolding startFault
+start-fine n room h l r = rw (ne-eqb n 0 (λ z. omega arith), le-leb n 4096 l, le-leb (2 * n) room r) refl
+
+module _ (s tw : List ℕ) (accepted : Accepted s tw) where
+  abbrev lent : List ℕ
+  lent = replicate 8192 0
+
+  fine : startFault (entries s) 8192 ≡ 0
+  fine =
+      let t = accepted-tree Kind.Data s (accepted .data-tree) in
+      start-fine (entries s) 8192 (accepted-grounds s tw accepted .tree .some) (omega (arith, t .small))
+      (omega (arith, t .small))
+
+  abbrev begun : List ℕ
+  begun = cleared (tableWidth * entries s) lent
+
+  start : StartPromise (entries s) lent (Started.Fresh (prepAt (entries s))) begun
+  start = record { answer = rw fine refl; leaves = rw fine refl }
+
+  abbrev turn : Turned Preparing
+  turn = prepTurnOf s tw prepBudget (underway (entries s) begun)
+
+  ended : prepBack turn .turn .stop ≡ Stop.End
+  ended = by (prepare-ends s tw accepted lent begun (prepAt (entries s)) start (one {b = prepBudget} (prep-handed turn)))
+    where
+      by : Done s tw prepBudget (turn .steps) (prepBack turn) ⊎ Short s tw prepBudget (turn .steps) (prepBack turn)
+          → prepBack turn .turn .stop ≡ Stop.End
+      by (inl x) = x .stop
+      by (inr x) = absurd (omega (arith, x .fewer, accepted-tree Kind.Data s (accepted .data-tree) .small))
+
+  table-is : turn .state .table ≡ tableOf s tw lent
+  unfolding tableOf
+  table-is = rw fine refl
+
+  pub table-prepared : Prepared s tw (tableOf s tw lent)
+  table-prepared = subst (Prepared s tw) table-is (record {
+    lent = lent;
+    cleared = begun;
+    state = prepAt (entries s);
+    start = start;
+    budgets = prepBudget;
+    steps = turn .steps;
+    last = prepBack turn .turn;
+    turns = one {b = prepBudget} (prep-handed turn);
+    ended = ended;
+  })
