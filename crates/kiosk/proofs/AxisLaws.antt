@@ -4,11 +4,11 @@ use mathlib.Core.Path.{_≡_}
 use mathlib.Core.List.{List, [], _∷_}
 use Rattle.checking.specs.declared.Written.{Written}
 use Rattle.checking.specs.Stops.{answered}
-use Rattle.axes.specs.declared.LevelAnswer.{LevelAnswer}
-use Rattle.axes.specs.declared.PlaceAnswer.{PlaceAnswer}
-use Rattle.axes.specs.Level.{Leveled, levelTold, LevelPromise}
-use Rattle.axes.specs.Block.{Placed, placeTold, PlacePromise}
-use Rattle.axes.specs.Axis.{AxisPromise}
+use Rattle.blocks.specs.declared.LevelAnswer.{LevelAnswer}
+use Rattle.blocks.specs.declared.PlaceAnswer.{PlaceAnswer}
+use Rattle.blocks.specs.Level.{Leveled, levelTold, LevelPromise}
+use Rattle.blocks.specs.Block.{Placed, placeTold, PlacePromise}
+use Rattle.marks.specs.Axis.{AxisPromise}
 use Rattle.kiosk.specs.Numbers.{Says, AnswerTold}
 use Rattle.kiosk.specs.Axes.{LevelSaid, LevelNumbers, PlaceSaid, PlaceNumbers, AxisNumbers}
 use Rattle.kiosk.proofs.Laws.{says-of, says-as, answer-as}

@@ -1,6 +1,6 @@
 -- The numbers of the C interface, case by case.
 use Prim.Native.Nat.{ℕ, _<_}
-use mathlib.Core.Path.{_≡_, refl, sym, ap, _∙_}
+use mathlib.Core.Path.{_≡_, refl, sym, ap, _∙_, subst}
 use mathlib.Core.List.{List, [], _∷_}
 use mathlib.Core.Bool.{true, false}
 use lib.Dec.{eqb, ltb}
@@ -13,6 +13,8 @@ use Rattle.checking.specs.declared.Written.{Written}
 use Rattle.checking.specs.declared.CheckTurn.{CheckTurn}
 use Rattle.checking.specs.Stops.{Told, told, Answered, answered}
 use Rattle.checking.specs.Turn.{TurnPromise}
+use Rattle.tag_lists.specs.TagLists.{TagsPromise}
+use Rattle.tag_writing.specs.TagsBack.{BackPromise}
 use Rattle.kiosk.specs.Numbers.{kindOf, outOf, Says, TurnTold, AnswerTold}
 use Rattle.kiosk.specs.Check.{checkStateOf, checkNumbers, CheckTurnPromise}
 
@@ -23,6 +25,15 @@ kind-data k h = simp (eq-eqb k 0 h)
 
 pub kind-twig : (k : ℕ) → (k ≡ 0 → ⊥) → kindOf k ≡ Kind.Twig
 kind-twig k h = simp (ne-eqb k 0 h)
+
+-- a promise for a kind is one for the kind that the number names
+pub tags-as :
+    (k j : Kind) (b room : List ℕ) (w : Written) (after : List ℕ) → k ≡ j → TagsPromise k b room w after → TagsPromise j b room w after
+tags-as k j b room w after q h = subst (λ (i : Kind). TagsPromise i b room w after) q h
+
+pub back-as :
+    (k j : Kind) (s room : List ℕ) (w : Written) (after : List ℕ) → k ≡ j → BackPromise k s room w after → BackPromise j s room w after
+back-as k j s room w after q h = subst (λ (i : Kind). BackPromise i s room w after) q h
 
 -- ---- what is said
 
@@ -45,9 +56,9 @@ written-told s t q = says-of Written (λ x. answered x .number) (λ x. answered 
 -- a stop reason and steps by what they stand for
 pub told-as : (t u : Told) (k j r : ℕ) (o : List ℕ) → t ≡ u → k ≡ j → TurnTold t k r o → TurnTold u j r o
 told-as t u k j r o p q z =
-    record
-    { number-is = z .number-is ∙ ap (λ (x : Told). x .number) p
-    ; out-is = z .out-is ∙ ap (λ (x : Told). outOf x k) p ∙ ap (outOf u) q
+    record {
+      number-is = z .number-is ∙ ap (λ (x : Told). x .number) p;
+      out-is = z .out-is ∙ ap (λ (x : Told). outOf x k) p ∙ ap (outOf u) q;
     }
 
 -- an answer by what it stands for

@@ -6,15 +6,15 @@ use lib.ListN.{getD}
 use lib.Dec.{ltb}
 use borrow.Author.Tests.{eq-eqb, ne-eqb, lt-ltb, le-ltb}
 use Rattle.checking.specs.Stops.{told}
-use Rattle.loose.specs.declared.Started.{Started}
-use Rattle.loose.specs.declared.PrepTurn.{PrepTurn}
-use Rattle.loose.specs.declared.Phase.{Phase}
-use Rattle.loose.specs.declared.Prep.{Prep}
-use Rattle.loose.specs.declared.Walk.{Walk}
-use Rattle.loose.specs.declared.WalkTurn.{WalkTurn}
-use Rattle.loose.specs.PrepTurn.{Fresh, startTold, StartPromise, PrepPromise, prepAt}
-use Rattle.loose.specs.Walking.{at}
-use Rattle.loose.specs.WalkTurn.{WalkPromise}
+use Rattle.preparing.specs.declared.Started.{Started}
+use Rattle.preparing.specs.declared.PrepTurn.{PrepTurn}
+use Rattle.walking.specs.declared.Phase.{Phase}
+use Rattle.preparing.specs.declared.Prep.{Prep}
+use Rattle.walking.specs.declared.Walk.{Walk}
+use Rattle.walking.specs.declared.WalkTurn.{WalkTurn}
+use Rattle.preparing.specs.PrepTurn.{Fresh, startTold, StartPromise, PrepPromise, prepAt}
+use Rattle.walking.specs.Walking.{at}
+use Rattle.walking.specs.WalkTurn.{WalkPromise}
 use Rattle.kiosk.specs.Numbers.{TurnTold}
 use Rattle.kiosk.specs.Prepare.{StartSaid, StartNumbers, PrepareTurnPromise}
 use Rattle.kiosk.specs.Walk.{phaseOf, phaseNumber, sixteen, outside, walkOf, walkNumbers, keptOf, WalkTurnPromise}
@@ -36,10 +36,10 @@ pub prepare-left :
     PrepPromise sig twig table b (prepAt (getD l 0 0)) t after → TurnTold (told (t .stop)) (t .steps) r o →
     PrepareTurnPromise sig twig table l b r after (t .state .next .0 ∷ []) o
 prepare-left sig twig table l b t after r o h z =
-    record
-    { says = told-as _ _ _ _ r o (h .stop) (h .steps) z
-    ; left = h .leaves
-    ; now-at = ap (λ (x : Prep). x .next .0 ∷ []) (h .state)
+    record {
+      says = told-as _ _ _ _ r o (h .stop) (h .steps) z;
+      left = h .leaves;
+      now-at = ap (λ (x : Prep). x .next .0 ∷ []) (h .state);
     }
 
 -- ---- walking

@@ -6,11 +6,11 @@
 use Prim.Native.Nat.{ℕ}
 use mathlib.Core.Path.{_≡_}
 use mathlib.Core.List.{List, [], _∷_}
-use Rattle.axes.specs.declared.LevelAnswer.{LevelAnswer}
-use Rattle.axes.specs.declared.PlaceAnswer.{PlaceAnswer}
-use Rattle.axes.specs.Level.{Leveled, levelTold, levelAnswer}
-use Rattle.axes.specs.Block.{Placed, placeTold, placeAnswer}
-use Rattle.axes.specs.Axis.{Left, axisAnswer}
+use Rattle.blocks.specs.declared.LevelAnswer.{LevelAnswer}
+use Rattle.blocks.specs.declared.PlaceAnswer.{PlaceAnswer}
+use Rattle.blocks.specs.Level.{Leveled, levelTold, levelAnswer}
+use Rattle.blocks.specs.Block.{Placed, placeTold, placeAnswer}
+use Rattle.marks.specs.Axis.{Left, axisAnswer}
 use Rattle.kiosk.specs.Numbers.{Says, AnswerTold}
 
 abbrev pub LeveledSays : Leveled → ℕ → List ℕ → Type 0

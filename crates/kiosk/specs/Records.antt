@@ -6,8 +6,8 @@
 use Prim.Native.Nat.{ℕ}
 use mathlib.Core.List.{List}
 use Rattle.records.specs.Records.{ReadPromise, WritePromise}
-use Rattle.records.specs.TagLists.{TagsPromise}
-use Rattle.records.specs.TagsBack.{BackPromise}
+use Rattle.tag_lists.specs.TagLists.{TagsPromise}
+use Rattle.tag_writing.specs.TagsBack.{BackPromise}
 use Rattle.kiosk.specs.Numbers.{kindOf, Wrote}
 
 abbrev pub ReadNumbers : List ℕ → List ℕ → ℕ → List ℕ → List ℕ → Type 0

@@ -1,7 +1,7 @@
 -- The starred cases of the axes, on Ten: refused or not, the refusal's number, length and entry, and the lent room at the end, which held 99s.
 use Prim.Native.Nat.{ℕ}
 use mathlib.Core.List.{List, [], _∷_}
-use Rattle.axes.specs.Axis.{Left, axisAnswer}
+use Rattle.marks.specs.Axis.{Left, axisAnswer}
 use Rattle.checked.specs.Menus.{ten}
 use Rattle.worked.specs.Case.{Case}
 

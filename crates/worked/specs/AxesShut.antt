@@ -5,6 +5,7 @@
 --   shut-out-refusing    refusing everything
 --   shut-out-fixed       one fixed answer
 --   shut-out-idle        a call that writes nothing
+--   ten-child            axis-is-xpath, used once on Ten
 use Prim.Native.Nat.{ℕ, _≤_, _<_}
 use mathlib.Core.Path.{_≡_, refl, ap, _∙_, sym, subst}
 use mathlib.Core.Logic.{_⊎_, inl, inr, ⊎-elim}
@@ -29,9 +30,9 @@ use Rattle.xpath.specs.Select.{upTo, some, rises, within}
 use Rattle.xpath.specs.Axes.{met, parentOf, ancestorOrSelf, wholeBefore, siblingBefore, onAxis, passes, chosen, pth, kept}
 use Rattle.xpath.specs.OnNodes.{InOrder, Lists, InUnion}
 use Rattle.xpath.specs.NodeLists.{lists-unique}
-use Rattle.axes.specs.Checked.{afterCheck}
-use Rattle.axes.specs.Axis.{argumentsFine, roomFor, axisWithin, AxisPromise}
-use Rattle.axes.proofs.Xpath.{Answers, axis-is-xpath}
+use Rattle.blocks.specs.Checked.{afterCheck}
+use Rattle.marks.specs.Axis.{argumentsFine, roomFor, axisWithin, AxisPromise}
+use Rattle.axes_told.specs.Xpath.{Answers, axis-is-xpath}
 use Rattle.worked.specs.Instances.{tenTree, ten-yields, ten-words}
 
 -- what a call answers, and what the room holds at the end
@@ -77,6 +78,10 @@ following-promise : AxisPromise ten (map pre (seven ∷ [])) 7 0 0 [] (Written.L
 unfolding pre run turnWithin lengthFault inRange stepOf closeOf nameless secondRoot accepted cell
     upTo some rises within met parentOf ancestorOrSelf wholeBefore siblingBefore onAxis passes chosen pth kept afterCheck argumentsFine roomFor axisWithin
 following-promise = record { said = refl; left = refl }
+
+-- axis-is-xpath on Ten: the children of 2
+pub ten-child : (l : List (Node (whole tenTree))) × Lists (InUnion 1 0 0 (two ∷ [])) l × Answers ten ten-words ten-yields (99 ∷ 99 ∷ []) (Written.Length 2) (3 ∷ 6 ∷ []) l
+ten-child = axis-is-xpath ten ten-words ten-yields (two ∷ []) (one-order two) 1 0 0 (omega arith) (99 ∷ 99 ∷ []) (Written.Length 2) (3 ∷ 6 ∷ []) child-promise
 
 -- the length and the ranks of the node set that a kept promise tells
 told-length : (room after : List ℕ) (k : ℕ) (l : List (Node (whole tenTree))) → Answers ten ten-words ten-yields room (Written.Length k) after l → length l ≡ k

@@ -8,3 +8,4 @@ pub mod Ordered
 pub mod Starred
 pub mod Instances
 pub mod AxesShut
+pub mod BlocksShut

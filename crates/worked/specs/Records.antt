@@ -6,11 +6,11 @@ use mathlib.Core.List.{List, [], _∷_, _++_}
 use lib.ListN.{length, replicate}
 use Rattle.checking.specs.declared.Kind.{Kind}
 use Rattle.checked.specs.Menus.{ten}
-use Rattle.records.specs.Scans.{haltNumber}
-use Rattle.records.specs.Room.{Left, leftBy}
+use Rattle.bytes_read.specs.Scans.{haltNumber}
+use Rattle.bytes_read.specs.Room.{Left, leftBy}
 use Rattle.records.specs.Records.{recordsScan, numbersFrom, bytesFrom, writeFault}
-use Rattle.records.specs.TagLists.{treeScan, numbersIn}
-use Rattle.records.specs.TagsBack.{backLeft}
+use Rattle.tag_lists.specs.TagLists.{treeScan, numbersIn}
+use Rattle.tag_writing.specs.TagsBack.{backLeft}
 use Rattle.worked.specs.Case.{Case}
 
 abbrev five : List ℕ
@@ -53,7 +53,7 @@ back s b = record { got = left (backLeft Kind.Data s (room b)); wanted = done b 
 abbrev records : List ℕ → Case
 records s = record {
   got = left (leftBy (haltNumber (recordsScan (bytesFrom s 0 (length s / 4)) .halt)) 0
-    (numbersFrom (bytesFrom s 0 (length s / 4)) 0 (recordsScan (bytesFrom s 0 (length s / 4)) .state .count)) (room s));
+      (numbersFrom (bytesFrom s 0 (length s / 4)) 0 (recordsScan (bytesFrom s 0 (length s / 4)) .state .count)) (room s));
   wanted = done s;
 }
 

@@ -9,26 +9,25 @@ use Rattle.trees.specs.Signature.{cell}
 use Rattle.worked.specs.Case.{Case}
 use Rattle.xpath.specs.Select.{upTo, some, rises, within}
 use Rattle.xpath.specs.Axes.{met, parentOf, ancestorOrSelf, wholeBefore, siblingBefore, onAxis, passes, chosen, pth, kept}
-use Rattle.axes.specs.Checked.{afterCheck}
-use Rattle.axes.specs.Axis.{argumentsFine, roomFor, axisWithin}
+use Rattle.blocks.specs.Checked.{afterCheck}
+use Rattle.marks.specs.Axis.{argumentsFine, roomFor, axisWithin}
 use Rattle.trees.specs.Tags.{tagsOf, opened, closed, rowsOf, oneTree, treeOf}
-use Rattle.records.specs.Bytes.{marked}
-use Rattle.records.specs.Scans.{stepBy}
-use Rattle.records.specs.Room.{leftBy}
+use Rattle.bytes_read.specs.Bytes.{marked}
+use Rattle.bytes_read.specs.Scans.{stepBy}
+use Rattle.bytes_read.specs.Room.{leftBy}
 use Rattle.records.specs.Records.{recordFault, recordsEnd, numbersFrom, bytesFrom, namelessFrom, writeFault}
-use Rattle.records.specs.TagLists.{tagBytes, rootClosed, namelessAt, misnested, tagFault, tagNext, treeEnd, tagsFrom}
-use Rattle.records.specs.TagsBack.{rowFrom, backLeft}
+use Rattle.tag_lists.specs.TagLists.{tagBytes, closedWith, namelessAt, misnested, tagFault, tagNext, treeEnd, tagsFrom}
+use Rattle.tag_writing.specs.TagsBack.{rowFrom, backLeft}
 use Rattle.worked.specs.Check as Check
 use Rattle.worked.specs.Axes as Axes
 use Rattle.worked.specs.Records as Records
-
-use Rattle.loose.specs.Masks.{every, hasBit, mask, put}
-use Rattle.loose.specs.Given.{givenOf, ready, begun}
-use Rattle.loose.specs.Preparing.{childrenIn, stands, canOf, badParent, written, joined, stepTable, prepStep}
-use Rattle.loose.specs.Preparing.{passes as twigPasses}
-use Rattle.loose.specs.PrepTurn.{cleared, startFault}
-use Rattle.loose.specs.Walking.{image, place, imageFits, phaseFits, endOf, badEnd, back, found, walkOn}
-use Rattle.loose.specs.Walking.{inRange as walkRange, stepOf as walkStep}
+use Rattle.preparing.specs.Masks.{every, hasBit, mask, put}
+use Rattle.preparing.specs.Given.{givenOf, ready, begun}
+use Rattle.preparing.specs.Preparing.{childrenIn, stands, canOf, badParent, written, joined, stepTable, prepStep}
+use Rattle.preparing.specs.Preparing.{passes as twigPasses}
+use Rattle.preparing.specs.PrepTurn.{cleared, startFault}
+use Rattle.walking.specs.Walking.{image, place, imageFits, phaseFits, endOf, badEnd, back, found, walkOn}
+use Rattle.walking.specs.Walking.{inRange as walkRange, stepOf as walkStep}
 use Rattle.ordering.specs.Twig.{passOf}
 use Rattle.ordering.specs.Next.{ranks, tuples, placedTest, laterTest, answerTest, smallerTest, firstOf, nextAnswer}
 use Rattle.ordered.specs.Promise.{allUpTo, tupleFits, orderedOf}
@@ -45,7 +44,7 @@ pub starred : map (λ (c : Case). c .got) cases ≡ map (λ (c : Case). c .wante
 unfolding run turnWithin lengthFault inRange stepOf closeOf nameless secondRoot accepted cell
     upTo some rises within met parentOf ancestorOrSelf wholeBefore siblingBefore onAxis passes chosen pth kept afterCheck argumentsFine roomFor axisWithin
     tagsOf opened closed rowsOf oneTree treeOf marked stepBy leftBy recordFault recordsEnd numbersFrom bytesFrom namelessFrom writeFault
-    tagBytes rootClosed namelessAt misnested tagFault tagNext treeEnd tagsFrom rowFrom backLeft
+    tagBytes closedWith namelessAt misnested tagFault tagNext treeEnd tagsFrom rowFrom backLeft
     every hasBit mask put givenOf ready begun childrenIn stands canOf badParent written joined stepTable prepStep twigPasses cleared startFault
     image place imageFits phaseFits endOf badEnd back found walkOn walkRange walkStep walked counted
     passOf ranks tuples placedTest laterTest answerTest smallerTest firstOf nextAnswer flatMap allUpTo tupleFits orderedOf orderedGiven

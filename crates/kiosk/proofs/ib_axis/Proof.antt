@@ -1,22 +1,18 @@
+-- The call's answer, told.
 use Rattle.kiosk.proofs.AxisLaws.{axis-left}
-use native.Mathlib.Omega.{arith}
 use borrow.Author.Needs.{needs}
 use Rattle.kiosk.proofs.ib_axis.Statement.{statement}
 use Rattle.kiosk.proofs.ib_axis.Tie as tie
 
--- src/lib.rt:185:9
 axis-requires : tie.Need-axis-requires
 axis-requires c κs = search needs
 
--- src/lib.rt:186:5
 tell-written-requires : tie.Need-tell-written-requires
 tell-written-requires c κs = search needs
 
--- src/lib.rt:169:1
 same-length : tie.Need-same-length
 same-length c = search needs
 
--- src/lib.rt:169:1
 returns : tie.Need-returns
 returns c =
     let a = c .before .before .before .before .before .before .before .before .before .args in

@@ -1,18 +1,15 @@
+-- The call's answer, told.
 use Rattle.kiosk.proofs.AxisLaws.{place-left}
-use native.Mathlib.Omega.{arith}
 use borrow.Author.Needs.{needs}
 use Rattle.kiosk.proofs.ib_block_place.Statement.{statement}
 use Rattle.kiosk.proofs.ib_block_place.Tie as tie
 
--- src/lib.rt:164:9
 block-place-requires : tie.Need-block-place-requires
 block-place-requires c κs = search needs
 
--- src/lib.rt:165:5
 tell-place-requires : tie.Need-tell-place-requires
 tell-place-requires c κs = search needs
 
--- src/lib.rt:160:1
 returns : tie.Need-returns
 returns c =
     let a = c .before .before .before .before .args in

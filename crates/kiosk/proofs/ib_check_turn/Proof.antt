@@ -1,38 +1,26 @@
+-- The turn of the state that the three numbers stand for, told and put back.
 use Rattle.kiosk.proofs.Laws.{check-left}
-use native.Mathlib.Omega.{arith}
 use borrow.Author.Needs.{needs}
 use Rattle.kiosk.proofs.ib_check_turn.Statement.{statement}
 use Rattle.kiosk.proofs.ib_check_turn.Tie as tie
-use Rattle.kiosk.proofs.ib_check_turn.Reads as reads
-use Rattle.kiosk.proofs.ib_check_turn.Lts as lts
-use Rattle.checking.proofs.CheckState.turn.Reads as turn-reads
-use Rattle.kiosk.proofs.kind_of.Reads as kind-of-reads
-use Rattle.kiosk.proofs.tell_stop.Reads as tell-stop-reads
-
 
 element-copy-out-t15 : tie.Need-element-copy-out-t15
 element-copy-out-t15 c = search needs
 
-
 element-copy-out-t19 : tie.Need-element-copy-out-t19
 element-copy-out-t19 c = search needs
-
 
 element-copy-out-t23 : tie.Need-element-copy-out-t23
 element-copy-out-t23 c = search needs
 
-
 kind-of-requires : tie.Need-kind-of-requires
 kind-of-requires c κs = search needs
-
 
 turn-requires : tie.Need-turn-requires
 turn-requires c κs = search needs
 
-
 tell-stop-requires : tie.Need-tell-stop-requires
 tell-stop-requires c κs = search needs
-
 
 returns : tie.Need-returns
 returns c =

@@ -1,18 +1,15 @@
+-- The call's answer, told.
 use Rattle.kiosk.proofs.AxisLaws.{level-left}
-use native.Mathlib.Omega.{arith}
 use borrow.Author.Needs.{needs}
 use Rattle.kiosk.proofs.ib_level.Statement.{statement}
 use Rattle.kiosk.proofs.ib_level.Tie as tie
 
--- src/lib.rt:155:9
 level-requires : tie.Need-level-requires
 level-requires c κs = search needs
 
--- src/lib.rt:156:5
 tell-level-requires : tie.Need-tell-level-requires
 tell-level-requires c κs = search needs
 
--- src/lib.rt:151:1
 returns : tie.Need-returns
 returns c =
     let a = c .before .before .before .before .args in

@@ -1,3 +1,4 @@
+-- The call's answer, told.
 use borrow.Author.Needs.{needs}
 use Rattle.kiosk.proofs.ib_ordered_next.Statement.{statement}
 use Rattle.kiosk.proofs.ib_ordered_next.Tie as tie

@@ -1,22 +1,18 @@
+-- The start call's answer, told.
 use Rattle.kiosk.proofs.LooseLaws.{start-left}
-use native.Mathlib.Omega.{arith}
 use borrow.Author.Needs.{needs}
 use Rattle.kiosk.proofs.ib_prepare_start.Statement.{statement}
 use Rattle.kiosk.proofs.ib_prepare_start.Tie as tie
 
--- src/lib.rt:194:9
 prepare-start-requires : tie.Need-prepare-start-requires
 prepare-start-requires c κs = search needs
 
--- src/lib.rt:195:5
 tell-start-requires : tie.Need-tell-start-requires
 tell-start-requires c κs = search needs
 
--- src/lib.rt:190:1
 same-length : tie.Need-same-length
 same-length c = search needs
 
--- src/lib.rt:190:1
 returns : tie.Need-returns
 returns c =
     let a = c .before .before .before .before .before .before .before .args in

@@ -1,26 +1,21 @@
+-- The turn of the state that the number stands for, told and put back.
 use Rattle.kiosk.proofs.LooseLaws.{prepare-left}
-use native.Mathlib.Omega.{arith}
 use borrow.Author.Needs.{needs}
 use Rattle.kiosk.proofs.ib_prepare_turn.Statement.{statement}
 use Rattle.kiosk.proofs.ib_prepare_turn.Tie as tie
 
--- src/lib.rt:215:23
 element-copy-out-t14 : tie.Need-element-copy-out-t14
 element-copy-out-t14 c = search needs
 
--- src/lib.rt:217:9
 turn-requires : tie.Need-turn-requires
 turn-requires c κs = search needs
 
--- src/lib.rt:222:5
 tell-stop-requires : tie.Need-tell-stop-requires
 tell-stop-requires c κs = search needs
 
--- src/lib.rt:199:1
 same-length : tie.Need-same-length
 same-length c = search needs
 
--- src/lib.rt:199:1
 returns : tie.Need-returns
 returns c =
     let a = c .before .before .before .before .before .before .before .before .before .before .before .before .args in

@@ -1,3 +1,4 @@
+-- The reader's answer, told.
 use borrow.Author.Needs.{needs}
 use Rattle.kiosk.proofs.ib_read_records.Statement.{statement}
 use Rattle.kiosk.proofs.ib_read_records.Tie as tie

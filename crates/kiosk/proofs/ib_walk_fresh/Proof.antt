@@ -1,19 +1,16 @@
+-- The numbers of the fresh walk.
 use mathlib.Core.Path.{refl, ap, _∙_}
 use Rattle.kiosk.specs.Walk.{walkNumbers}
-use native.Mathlib.Omega.{arith}
 use borrow.Author.Needs.{needs}
 use Rattle.kiosk.proofs.ib_walk_fresh.Statement.{statement}
 use Rattle.kiosk.proofs.ib_walk_fresh.Tie as tie
 
--- src/lib.rt:302:9
 fresh-requires : tie.Need-fresh-requires
 fresh-requires c κs = search needs
 
--- src/lib.rt:303:9
 numbers-of-requires : tie.Need-numbers-of-requires
 numbers-of-requires c κs = search needs
 
--- src/lib.rt:298:1
 returns : tie.Need-returns
 returns c = record { number = refl; numbers = c .numbers-of .ensures ∙ ap walkNumbers (c .before .fresh .ensures) }
 

@@ -1,26 +1,21 @@
+-- The turn of the walk that the nineteen numbers stand for, told and put back.
 use Rattle.kiosk.proofs.LooseLaws.{walk-left}
-use native.Mathlib.Omega.{arith}
 use borrow.Author.Needs.{needs}
 use Rattle.kiosk.proofs.ib_walk_turn.Statement.{statement}
 use Rattle.kiosk.proofs.ib_walk_turn.Tie as tie
 
--- src/lib.rt:325:18
 walk-of-requires : tie.Need-walk-of-requires
 walk-of-requires c κs = search needs
 
--- src/lib.rt:325:9
 turn-requires : tie.Need-turn-requires
 turn-requires c κs = search needs
 
--- src/lib.rt:327:9
 kept-requires : tie.Need-kept-requires
 kept-requires c κs = search needs
 
--- src/lib.rt:330:5
 tell-stop-requires : tie.Need-tell-stop-requires
 tell-stop-requires c κs = search needs
 
--- src/lib.rt:309:1
 returns : tie.Need-returns
 returns c =
     let a = c .before .before .before .before .before .before .before .before .before .before .args in

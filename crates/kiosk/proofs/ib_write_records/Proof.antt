@@ -1,3 +1,4 @@
+-- The writer's answer, told.
 use borrow.Author.Needs.{needs}
 use Rattle.kiosk.proofs.ib_write_records.Statement.{statement}
 use Rattle.kiosk.proofs.ib_write_records.Tie as tie

@@ -1,27 +1,22 @@
-use Rattle.axes.specs.declared.PlaceAnswer.{PlaceAnswer}
+-- A place with no entry, or a refusal with place and count 0.
+use Rattle.blocks.specs.declared.PlaceAnswer.{PlaceAnswer}
 use Rattle.kiosk.proofs.AxisLaws.{place-told}
-use native.Mathlib.Omega.{arith}
 use borrow.Author.Needs.{needs}
-use Rattle.kiosk.proofs.tell_place.Statement.{statement}
-use Rattle.kiosk.proofs.tell_place.Tie as tie
+use Rattle.kiosk.proofs.telling.tell_place.Statement.{statement}
+use Rattle.kiosk.proofs.telling.tell_place.Tie as tie
 
--- src/lib.rt:96:30
 enum-known-answer : tie.Need-enum-known-answer
 enum-known-answer c = search needs
 
--- src/lib.rt:102:30
 enum-known-answer-2 : tie.Need-enum-known-answer-2
 enum-known-answer-2 c = search needs
 
--- src/lib.rt:103:25
 cast-entry : tie.Need-cast-entry
 cast-entry c = search needs
 
--- src/lib.rt:92:1
 returns : tie.Need-returns
 returns c = place-told _ (PlaceAnswer.Numbers (c .before .before .answer .given .0 .0) (c .before .before .answer .given .0 .1 .0)) (c .before .before .answer .given .1)
 
--- src/lib.rt:92:1
 returns-2 : tie.Need-returns-2
 returns-2 c = place-told _ (PlaceAnswer.Refused (c .before .before .before .answer2 .given .0 .0)) (c .before .before .before .answer2 .given .1)
 

@@ -1,31 +1,25 @@
-use Rattle.axes.specs.declared.LevelAnswer.{LevelAnswer}
+-- A level with no entry, or a refusal with level 0.
+use Rattle.blocks.specs.declared.LevelAnswer.{LevelAnswer}
 use Rattle.kiosk.proofs.AxisLaws.{level-told}
-use native.Mathlib.Omega.{arith}
 use borrow.Author.Needs.{needs}
-use Rattle.kiosk.proofs.tell_level.Statement.{statement}
-use Rattle.kiosk.proofs.tell_level.Tie as tie
+use Rattle.kiosk.proofs.telling.tell_level.Statement.{statement}
+use Rattle.kiosk.proofs.telling.tell_level.Tie as tie
 
--- src/lib.rt:78:28
 enum-known-answer : tie.Need-enum-known-answer
 enum-known-answer c = search needs
 
--- src/lib.rt:79:25
 cast-count : tie.Need-cast-count
 cast-count c = search needs
 
--- src/lib.rt:83:30
 enum-known-answer-2 : tie.Need-enum-known-answer-2
 enum-known-answer-2 c = search needs
 
--- src/lib.rt:84:25
 cast-entry : tie.Need-cast-entry
 cast-entry c = search needs
 
--- src/lib.rt:74:1
 returns : tie.Need-returns
 returns c = level-told _ (LevelAnswer.Level (c .before .before .answer .given .0 .0)) (c .before .before .answer .given .1)
 
--- src/lib.rt:74:1
 returns-2 : tie.Need-returns-2
 returns-2 c = level-told _ (LevelAnswer.Refused (c .before .before .before .answer2 .given .0 .0)) (c .before .before .before .answer2 .given .1)
 

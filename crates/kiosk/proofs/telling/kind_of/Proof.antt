@@ -2,8 +2,8 @@
 use mathlib.Core.Path.{sym}
 use native.Mathlib.Omega.{arith}
 use Rattle.kiosk.proofs.Laws.{kind-data, kind-twig}
-use Rattle.kiosk.proofs.kind_of.Statement.{statement}
-use Rattle.kiosk.proofs.kind_of.Tie as tie
+use Rattle.kiosk.proofs.telling.kind_of.Statement.{statement}
+use Rattle.kiosk.proofs.telling.kind_of.Tie as tie
 
 returns : tie.Need-returns
 returns c = sym (kind-data (c .before .args .kind) (omega arith))

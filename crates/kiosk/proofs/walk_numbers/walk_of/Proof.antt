@@ -1,95 +1,74 @@
+-- Nineteen numbers taken apart; a phase over 2 stands for a walk outside every range.
 use mathlib.Core.Path.{sym}
 use Rattle.kiosk.proofs.LooseLaws.{walk-outside, walk-inside}
 use native.Mathlib.Omega.{arith}
 use borrow.Author.Needs.{needs}
-use Rattle.kiosk.proofs.walk_of.Statement.{statement}
-use Rattle.kiosk.proofs.walk_of.Tie as tie
+use Rattle.kiosk.proofs.walk_numbers.walk_of.Statement.{statement}
+use Rattle.kiosk.proofs.walk_numbers.walk_of.Tie as tie
 
--- src/lib.rt:250:17
 array-read-phase : tie.Need-array-read-phase
 array-read-phase c = search needs
 
--- src/lib.rt:252:9
 returns : tie.Need-returns
 returns c = sym (walk-outside (c .before .args .t1) (omega arith))
 
--- src/lib.rt:260:9
 array-read-t8 : tie.Need-array-read-t8
 array-read-t8 c = search needs
 
--- src/lib.rt:260:15
 array-read-t17 : tie.Need-array-read-t17
 array-read-t17 c = search needs
 
--- src/lib.rt:260:21
 array-read-t20 : tie.Need-array-read-t20
 array-read-t20 c = search needs
 
--- src/lib.rt:260:27
 array-read-t23 : tie.Need-array-read-t23
 array-read-t23 c = search needs
 
--- src/lib.rt:260:33
 array-read-t26 : tie.Need-array-read-t26
 array-read-t26 c = search needs
 
--- src/lib.rt:260:39
 array-read-t29 : tie.Need-array-read-t29
 array-read-t29 c = search needs
 
--- src/lib.rt:260:45
 array-read-t32 : tie.Need-array-read-t32
 array-read-t32 c = search needs
 
--- src/lib.rt:260:51
 array-read-t35 : tie.Need-array-read-t35
 array-read-t35 c = search needs
 
--- src/lib.rt:260:57
 array-read-t38 : tie.Need-array-read-t38
 array-read-t38 c = search needs
 
--- src/lib.rt:260:63
 array-read-t41 : tie.Need-array-read-t41
 array-read-t41 c = search needs
 
--- src/lib.rt:260:69
 array-read-t44 : tie.Need-array-read-t44
 array-read-t44 c = search needs
 
--- src/lib.rt:260:76
 array-read-t47 : tie.Need-array-read-t47
 array-read-t47 c = search needs
 
--- src/lib.rt:260:83
 array-read-t50 : tie.Need-array-read-t50
 array-read-t50 c = search needs
 
--- src/lib.rt:260:90
 array-read-t53 : tie.Need-array-read-t53
 array-read-t53 c = search needs
 
--- src/lib.rt:260:97
 array-read-t56 : tie.Need-array-read-t56
 array-read-t56 c = search needs
 
--- src/lib.rt:260:104
 array-read-t59 : tie.Need-array-read-t59
 array-read-t59 c = search needs
 
--- src/lib.rt:262:9
 phase-of-requires : tie.Need-phase-of-requires
 phase-of-requires c κs = search needs
 
--- src/lib.rt:265:15
 array-read-t8-2 : tie.Need-array-read-t8-2
 array-read-t8-2 c = search needs
 
--- src/lib.rt:266:28
 array-read-t59-2 : tie.Need-array-read-t59-2
 array-read-t59-2 c = search needs
 
--- src/lib.rt:247:1
 returns-2 : tie.Need-returns-2
 returns-2 c = sym (walk-inside (c .before .before .args .t1) (c .phase-of .result) (omega arith) (c .phase-of .ensures))
 

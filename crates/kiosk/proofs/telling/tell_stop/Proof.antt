@@ -1,44 +1,33 @@
+-- Each stop reason has its number, and a refusal its entry.
 use Rattle.checking.specs.declared.Stop.{Stop}
 use Rattle.kiosk.proofs.Laws.{stop-told}
-use native.Mathlib.Omega.{arith}
 use borrow.Author.Needs.{needs}
-use Rattle.kiosk.proofs.tell_stop.Statement.{statement}
-use Rattle.kiosk.proofs.tell_stop.Tie as tie
-use Rattle.kiosk.proofs.tell_stop.Reads as reads
-use Rattle.kiosk.proofs.tell_stop.Lts as lts
-
+use Rattle.kiosk.proofs.telling.tell_stop.Statement.{statement}
+use Rattle.kiosk.proofs.telling.tell_stop.Tie as tie
 
 enum-told : tie.Need-enum-told
 enum-told c = search needs
 
-
 enum-told-2 : tie.Need-enum-told-2
 enum-told-2 c = search needs
-
 
 enum-told-3 : tie.Need-enum-told-3
 enum-told-3 c = search needs
 
-
 enum-known-stop : tie.Need-enum-known-stop
 enum-known-stop c = search needs
-
 
 cast-entry : tie.Need-cast-entry
 cast-entry c = search needs
 
-
 returns : tie.Need-returns
 returns c = stop-told _ Stop.Answer _ (c .before .enum-told .given .1)
-
 
 returns-2 : tie.Need-returns-2
 returns-2 c = stop-told _ Stop.End _ (c .before .enum-told2 .given .1)
 
-
 returns-3 : tie.Need-returns-3
 returns-3 c = stop-told _ Stop.Budget _ (c .before .enum-told3 .given .1)
-
 
 returns-4 : tie.Need-returns-4
 returns-4 c = stop-told _ (Stop.Refused (c .before .before .before .stop .given .0 .0)) _ (c .before .before .before .stop .given .1)

@@ -1,19 +1,17 @@
+-- The three phases by their numbers.
 use mathlib.Core.Path.{sym}
 use Rattle.kiosk.proofs.LooseLaws.{phase-walking, phase-answer, phase-ended}
 use native.Mathlib.Omega.{arith}
 use borrow.Author.Needs.{needs}
-use Rattle.kiosk.proofs.phase_of.Statement.{statement}
-use Rattle.kiosk.proofs.phase_of.Tie as tie
+use Rattle.kiosk.proofs.walk_numbers.phase_of.Statement.{statement}
+use Rattle.kiosk.proofs.walk_numbers.phase_of.Tie as tie
 
--- src/lib.rt:230:9
 returns : tie.Need-returns
 returns c = sym (phase-walking (c .before .args .phase) (omega arith))
 
--- src/lib.rt:226:1
 returns-2 : tie.Need-returns-2
 returns-2 c = sym (phase-answer (c .before .before .args .phase) (omega arith) (omega arith))
 
--- src/lib.rt:226:1
 returns-3 : tie.Need-returns-3
 returns-3 c = sym (phase-ended (c .before .before .args .phase) (omega arith) (omega arith))
 
