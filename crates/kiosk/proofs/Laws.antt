@@ -13,7 +13,7 @@ use Rattle.checking.specs.declared.Written.{Written}
 use Rattle.checking.specs.declared.CheckTurn.{CheckTurn}
 use Rattle.checking.specs.Stops.{Told, told, Answered, answered}
 use Rattle.checking.specs.Turn.{TurnPromise}
-use Rattle.tag_lists.specs.TagLists.{TagsPromise}
+use Rattle.tag_lists.specs.Readers.{TagsPromise}
 use Rattle.tag_writing.specs.TagsBack.{BackPromise}
 use Rattle.kiosk.specs.Numbers.{kindOf, outOf, Says, TurnTold, AnswerTold}
 use Rattle.kiosk.specs.Check.{checkStateOf, checkNumbers, CheckTurnPromise}

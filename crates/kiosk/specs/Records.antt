@@ -6,7 +6,7 @@
 use Prim.Native.Nat.{ℕ}
 use mathlib.Core.List.{List}
 use Rattle.records.specs.Records.{ReadPromise, WritePromise}
-use Rattle.tag_lists.specs.TagLists.{TagsPromise}
+use Rattle.tag_lists.specs.Readers.{TagsPromise}
 use Rattle.tag_writing.specs.TagsBack.{BackPromise}
 use Rattle.kiosk.specs.Numbers.{kindOf, Wrote}
 

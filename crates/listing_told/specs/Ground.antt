@@ -24,7 +24,7 @@ use Rattle.checking.specs.Whole.{WholePromise}
 use Rattle.checked.specs.Yields.{Yields, entries}
 use Rattle.checked.specs.Wholly.{accepted-tree}
 use Rattle.bytes_read.specs.Scans.{haltNumber}
-use Rattle.tag_lists.specs.TagLists.{treeScan, numbersIn}
+use Rattle.tag_scan.specs.TagLists.{treeScan, numbersIn}
 use Rattle.retold.specs.Taken.{Bytes}
 use Rattle.retold.specs.Sound.{scan-sound}
 use Rattle.retold.specs.There.{yields-accepted}

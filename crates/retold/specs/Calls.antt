@@ -22,7 +22,8 @@ use Rattle.bytes_read.specs.Room.{Left, leftBy}
 use Rattle.bytes_read.proofs.Rooms.{short-is, written-is}
 use Rattle.records.specs.Records.{recordsScan, numbersFrom, bytesFrom, writeFault, ReadPromise, WritePromise}
 use Rattle.tag_lists.specs.declared.TreeRead.{TreeRead}
-use Rattle.tag_lists.specs.TagLists.{treeScan, numbersIn, readTold, TagsPromise, TreePromise}
+use Rattle.tag_scan.specs.TagLists.{treeScan, numbersIn}
+use Rattle.tag_lists.specs.Readers.{readTold, TagsPromise, TreePromise}
 use Rattle.tag_writing.specs.TagsBack.{backBytes, backLeft, BackPromise}
 use Rattle.tag_writing.proofs.Back.{left-as}
 use Rattle.retold.specs.Rooms.{one-result, one-reading, Case, refused, short, written, which}

@@ -22,7 +22,8 @@ use Rattle.bytes_read.specs.Scans.{stepBy, haltNumber}
 use Rattle.bytes_read.specs.Room.{Left, leftBy, LeftPromise}
 use Rattle.records.specs.Records.{recordFault, recordsEnd, recordsScan, numbersFrom, bytesFrom, namelessFrom, writeFault, ReadPromise, WritePromise}
 use Rattle.tag_lists.specs.declared.TreeRead.{TreeRead}
-use Rattle.tag_lists.specs.TagLists.{tagBytes, closedWith, namelessAt, misnested, tagFault, tagNext, treeEnd, treeScan, tagsFrom, numbersIn, readTold, TagsPromise, TreePromise}
+use Rattle.tag_scan.specs.TagLists.{tagBytes, closedWith, namelessAt, misnested, tagFault, tagNext, treeEnd, treeScan, tagsFrom, numbersIn}
+use Rattle.tag_lists.specs.Readers.{readTold, TagsPromise, TreePromise}
 use Rattle.tag_writing.specs.TagsBack.{rowFrom, backLeft, BackPromise}
 
 -- the starred entry 7,1,2,0 as numbers, as a record and as a tag list; nothing; and a room

@@ -18,13 +18,13 @@ use Rattle.trees.specs.TagLaws.{tags-length, tags-read}
 use Rattle.trees.specs.Nesting.{tree-nested}
 use Rattle.bytes_read.specs.Bytes.{numberAt, low, high}
 use Rattle.bytes_read.specs.Scans.{Scan, begin, stepBy, haltNumber}
-use Rattle.tag_lists.specs.TagLists.{opening, rootClosed, namelessAt, tagFault, tagNext, treeEnd, treeScan, tagBytes, tagsFrom, treeNumbers, numbersIn}
+use Rattle.tag_scan.specs.TagLists.{opening, rootClosed, namelessAt, tagFault, tagNext, treeEnd, treeScan, tagBytes, tagsFrom, treeNumbers, numbersIn}
 use Rattle.bytes_read.proofs.Marks.{marked-yes, marked-first}
 use Rattle.bytes_read.proofs.Scanning.{step-passed, passed-grow, scan-ended}
-use Rattle.tag_lists.proofs.TagFaults.{closed-open, closed-none, closed-yes, end-open, end-here, end-last, nameless-any, nameless-other, open-fine, close-fine, next-open, next-close}
-use Rattle.tag_lists.proofs.Judging.{Tagged, tag-passes}
+use Rattle.tag_scan.proofs.TagFaults.{closed-open, closed-none, closed-yes, end-open, end-here, end-last, nameless-any, nameless-other, open-fine, close-fine, next-open, next-close}
+use Rattle.tag_scan.proofs.Judging.{Tagged, tag-passes}
 use Rattle.tag_writing.proofs.Emit.{tag-bytes-length}
-use Rattle.tag_lists.proofs.Build.{tags-open, tags-close, tags-none}
+use Rattle.tag_scan.proofs.TagsFrom.{tags-open, tags-close, tags-none}
 use Rattle.retold.specs.Names.{TagNames, opensIn, opens-row, row-names}
 
 module _ (b : List ℕ) where

@@ -12,8 +12,8 @@ use lib.Dec.{eqb, leb, ltb}
 use borrow.Author.Tests.{eqb-true}
 use Rattle.turns.specs.Pick.{pick}
 use Rattle.bytes_read.specs.Scans.{Scan, begin, firstFault, haltNumber}
-use Rattle.tag_lists.specs.TagLists.{opening, closing, namelessAt, misnested, rootClosed, tagFault, tagNext, treeEnd, treeScan}
-use Rattle.tag_lists.proofs.Judging.{tag-passes}
+use Rattle.tag_scan.specs.TagLists.{opening, closing, namelessAt, misnested, rootClosed, tagFault, tagNext, treeEnd, treeScan}
+use Rattle.tag_scan.proofs.Judging.{tag-passes}
 use Rattle.bytes_read.proofs.Scanning.{Ended, Faulty, scan-comes}
 
 end-at : (b : List ℕ) (st : Scan) → treeEnd true b st ≡ true → st .at ≡ length b

@@ -18,7 +18,8 @@ use Rattle.checking.specs.declared.Kind.{Kind}
 use Rattle.checking.specs.declared.Written.{Written}
 use Rattle.bytes_read.specs.Scans.{haltNumber}
 use Rattle.bytes_read.specs.Room.{Left, leftBy, frontWith}
-use Rattle.tag_lists.specs.TagLists.{tagBytes, treeScan, numbersIn, TagsPromise}
+use Rattle.tag_scan.specs.TagLists.{tagBytes, treeScan, numbersIn}
+use Rattle.tag_lists.specs.Readers.{TagsPromise}
 use Rattle.retold.specs.Rooms.{Case, refused, short, written, which, fits-written, ten-given}
 use Rattle.retold.specs.Taken.{Bytes, Taken}
 use Rattle.retold.specs.Sound.{scan-sound}

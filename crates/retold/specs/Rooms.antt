@@ -15,7 +15,7 @@ use Rattle.checking.specs.declared.Written.{Written}
 use Rattle.checked.specs.Apart.{answered-apart}
 use Rattle.tag_lists.specs.declared.TreeRead.{TreeRead}
 use Rattle.bytes_read.specs.Room.{Left, leftBy, frontWith, LeftPromise, RoomPromise}
-use Rattle.tag_lists.specs.TagLists.{ReadTold, readTold, ReadLeft}
+use Rattle.tag_lists.specs.Readers.{ReadTold, readTold, ReadLeft}
 use Rattle.bytes_read.proofs.Rooms.{refused-is, short-is, written-is}
 
 -- ---- one result

@@ -29,7 +29,7 @@ use Rattle.bytes_read.specs.Room.{Left, frontWith}
 use Rattle.records.specs.Records.{recordsScan, numbersFrom, bytesFrom, namelessFrom, writeFault, ReadPromise, WritePromise}
 use Rattle.records.proofs.Faults.{write-fine}
 use Rattle.records.proofs.Filling.{numbers-length}
-use Rattle.tag_lists.specs.TagLists.{TagsPromise}
+use Rattle.tag_lists.specs.Readers.{TagsPromise}
 use Rattle.tag_writing.specs.TagsBack.{backBytes, BackPromise}
 use Rattle.tag_writing.proofs.Back.{left-as}
 use Rattle.retold.specs.Rooms.{front-of-room, fits-written}

@@ -18,7 +18,8 @@ use Rattle.checking.specs.declared.Written.{Written}
 use Rattle.checking.specs.Kinds.{anyName, most}
 use Rattle.checked.specs.Apart.{answered-apart}
 use Rattle.bytes_read.specs.Room.{Left, frontWith}
-use Rattle.tag_lists.specs.TagLists.{tagBytes, treeScan, numbersIn, TagsPromise}
+use Rattle.tag_scan.specs.TagLists.{tagBytes, treeScan, numbersIn}
+use Rattle.tag_lists.specs.Readers.{TagsPromise}
 use Rattle.tag_writing.proofs.Emit.{tag-bytes-length}
 use Rattle.retold.specs.Taken.{Bytes, Taken}
 use Rattle.retold.specs.Rooms.{Case, refused, short, written, which, ten-given, refused-writes-nothing}

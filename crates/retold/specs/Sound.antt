@@ -17,11 +17,12 @@ use Rattle.trees.specs.Signature.{signature}
 use Rattle.trees.specs.Tags.{Tag, opens, closes, treeTags}
 use Rattle.bytes_read.specs.Bytes.{numberAt, low, high}
 use Rattle.bytes_read.specs.Scans.{Scan, haltNumber}
-use Rattle.tag_lists.specs.TagLists.{opening, closing, namelessAt, treeScan, tagBytes, tagsFrom, numbersIn}
+use Rattle.tag_scan.specs.TagLists.{opening, closing, namelessAt, treeScan, tagBytes, tagsFrom, numbersIn}
 use Rattle.bytes_read.proofs.Marks.{marked-is}
-use Rattle.tag_lists.proofs.TagFaults.{Opened, Closed}
-use Rattle.tag_lists.proofs.Build.{tags-open, tags-close, tags-none, whole-numbers}
-use Rattle.tag_lists.proofs.Judging.{Tagged, stepped, read-whole}
+use Rattle.tag_scan.proofs.TagFaults.{Opened, Closed}
+use Rattle.tag_scan.proofs.TagsFrom.{tags-open, tags-close, tags-none}
+use Rattle.tag_lists.proofs.Build.{whole-numbers}
+use Rattle.tag_scan.proofs.Judging.{Tagged, stepped, read-whole}
 use Rattle.retold.specs.Taken.{Bytes}
 use Rattle.retold.specs.Names.{TagNames, names-row}
 

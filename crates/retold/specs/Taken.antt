@@ -9,7 +9,7 @@ use Rattle.trees.specs.Tree.{Tree, Grown}
 use Rattle.trees.specs.Tags.{treeTags}
 use Rattle.checking.specs.Kinds.{anyName, most}
 use Rattle.checking.specs.declared.Kind.{Kind}
-use Rattle.tag_lists.specs.TagLists.{tagBytes}
+use Rattle.tag_scan.specs.TagLists.{tagBytes}
 
 -- "bytes"
 abbrev pub Bytes : List ℕ → Type 0

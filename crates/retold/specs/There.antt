@@ -26,7 +26,8 @@ use Rattle.checked.specs.Apart.{told-stop}
 use Rattle.checked.specs.Accepted.{Tree-of, tree-of, Came, chain-complete}
 use Rattle.checked.specs.Wholly.{handed, handed-is}
 use Rattle.bytes_read.specs.Room.{leftBy, frontWith}
-use Rattle.tag_lists.specs.TagLists.{tagBytes, TagsPromise}
+use Rattle.tag_scan.specs.TagLists.{tagBytes}
+use Rattle.tag_lists.specs.Readers.{TagsPromise}
 use Rattle.tag_writing.specs.TagsBack.{backBytes, backLeft, BackPromise}
 use Rattle.tag_writing.proofs.Emit.{tree-in}
 use Rattle.tag_writing.proofs.Back.{left-as}

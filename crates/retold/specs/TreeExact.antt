@@ -22,7 +22,8 @@ use Rattle.bytes_read.specs.Scans.{haltNumber}
 use Rattle.bytes_read.specs.Room.{Left, leftBy, frontWith}
 use Rattle.bytes_read.proofs.Rooms.{short-is, written-is}
 use Rattle.tag_lists.specs.declared.TreeRead.{TreeRead}
-use Rattle.tag_lists.specs.TagLists.{tagBytes, treeScan, numbersIn, readTold, ReadLeft, TreePromise}
+use Rattle.tag_scan.specs.TagLists.{tagBytes, treeScan, numbersIn}
+use Rattle.tag_lists.specs.Readers.{readTold, ReadLeft, TreePromise}
 use Rattle.tag_lists.proofs.Reading.{unreadBy}
 use Rattle.retold.specs.Rooms.{reading-apart, Case, refused, short, written, which}
 use Rattle.retold.specs.Taken.{Bytes}

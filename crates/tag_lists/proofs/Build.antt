@@ -4,7 +4,7 @@
 --   build-row, build-tree the tags of a row, and of a tree, leave its signature in the room
 --   Builds, builds-…      a loop that builds
 --   whole-numbers         tags that are one whole tree: which tree, and its signature
-use Prim.Native.Nat.{ℕ, zero, suc, _+_, _-_, _*_, _≤_, _<_}
+use Prim.Native.Nat.{ℕ, suc, _+_, _-_, _*_, _≤_, _<_}
 use mathlib.Core.Path.{_≡_, refl, ap, _∙_, sym}
 use mathlib.Core.Bool.{Bool, true, false, _&&_}
 use mathlib.Core.List.{List, [], _∷_, _++_, append-assoc, append-nil}
@@ -22,7 +22,8 @@ use Rattle.trees.specs.TagLaws.{tags-length, tags-read}
 use Rattle.trees.specs.Nesting.{nested-tree}
 use Rattle.bytes_read.specs.Bytes.{numberAt}
 use Rattle.bytes_read.specs.Room.{frontWith}
-use Rattle.tag_lists.specs.TagLists.{opening, tagsFrom, treeNumbers, numbersIn}
+use Rattle.tag_scan.specs.TagLists.{opening, tagsFrom, treeNumbers, numbersIn}
+use Rattle.tag_scan.proofs.TagsFrom.{tags-length-from, tags-open, tags-close, tags-none}
 use Rattle.tag_lists.specs.Builds.{openRoom, closeRoom}
 
 -- ---- one tag
@@ -75,30 +76,6 @@ module _ (room : List ℕ) (top p f : ℕ) where
       go : (t : Bool) → length (pick t (sets room (4 * (top - 1) + 1) (p ∷ f ∷ [])) room) ≡ length room
       go true = length-sets room (4 * (top - 1) + 1) (p ∷ f ∷ [])
       go false = refl
-
-module _ (b : List ℕ) where
-  pub tags-length-from : (k p : ℕ) → length (tagsFrom b k p) ≡ k
-  unfolding tagsFrom
-  tags-length-from zero p = refl
-  tags-length-from (suc k) p = go (opening b p) (tags-length-from k (p + 4)) (tags-length-from k (p + 2))
-    where
-      go : (t : Bool) → length (tagsFrom b k (p + 4)) ≡ k → length (tagsFrom b k (p + 2)) ≡ k
-          → length (pick t (opens (numberAt b (p + 2)) ∷ tagsFrom b k (p + 4)) (closes ∷ tagsFrom b k (p + 2))) ≡ suc k
-      go true u v = ap suc u
-      go false u v = ap suc v
-
-  pub tags-open : (k p : ℕ) → opening b p ≡ true → tagsFrom b (suc k) p ≡ opens (numberAt b (p + 2)) ∷ tagsFrom b k (p + 4)
-  unfolding tagsFrom
-  tags-open k p h = simp h
-
-  pub tags-close : (k p : ℕ) → opening b p ≡ false → tagsFrom b (suc k) p ≡ closes ∷ tagsFrom b k (p + 2)
-  unfolding tagsFrom
-  tags-close k p h = simp h
-
-  pub tags-none : (k p : ℕ) → k ≡ 0 → tagsFrom b k p ≡ []
-  unfolding tagsFrom
-  tags-none zero p h = refl
-  tags-none (suc k) p h = absurd (omega arith)
 
 -- ---- all tags of a list: i elements opened, top the innermost open one, c closed
 

@@ -1,4 +1,2 @@
-pub mod TagFaults
 pub mod Build
-pub mod Judging
 pub mod Reading

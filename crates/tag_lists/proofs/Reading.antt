@@ -24,10 +24,11 @@ use Rattle.bytes_read.specs.Scans.{Scan, haltNumber}
 use Rattle.bytes_read.specs.Room.{Left, leftBy, frontWith}
 use Rattle.bytes_read.proofs.Scanning.{passed-grow}
 use Rattle.bytes_read.proofs.Rooms.{refusedBy, refused-is, short-is, written-is}
+use Rattle.tag_scan.specs.TagLists.{tagFault, tagNext, treeEnd, treeScan, tagsFrom, numbersIn}
+use Rattle.tag_scan.proofs.Judging.{tag-passes, read-whole}
 use Rattle.tag_lists.specs.declared.TreeRead.{TreeRead}
-use Rattle.tag_lists.specs.TagLists.{tagFault, tagNext, treeEnd, treeScan, tagsFrom, numbersIn, readTold, ReadLeft, TreePromise, TagsPromise, Filled, FilledPromise}
+use Rattle.tag_lists.specs.Readers.{readTold, ReadLeft, TreePromise, TagsPromise, Filled, FilledPromise}
 use Rattle.tag_lists.proofs.Build.{whole-numbers}
-use Rattle.tag_lists.proofs.Judging.{tag-passes, read-whole}
 
 -- what stands in the bytes where nothing is refused; n elements were read
 module _ (all any : Bool) (m : ℕ) (b : List ℕ) (p n : ℕ) (en : n ≡ treeScan all any m b p .state .count)

@@ -1,3 +1,3 @@
--- Tag lists: how they are read; the readers' promises.
-pub mod TagLists
+-- Tag lists read into signatures: the promises of the readers.
+pub mod Readers
 pub mod Builds

@@ -22,7 +22,7 @@ use Rattle.trees.specs.Rows.{Holds}
 use Rattle.trees.specs.Listed.{signature-length, listed-whole}
 use Rattle.trees.specs.Tags.{Tag, opens, closes, tagsOf, treeTags}
 use Rattle.bytes_read.specs.Bytes.{low, high}
-use Rattle.tag_lists.specs.TagLists.{tagBytes}
+use Rattle.tag_scan.specs.TagLists.{tagBytes}
 use Rattle.bytes_read.proofs.Rooms.{Storing, storing-more}
 use Rattle.tag_writing.specs.TagsBack.{rowFrom, treeIn, backBytes, endsAt}
 

@@ -18,7 +18,7 @@ use Rattle.checking.specs.Whole.{wholeOf}
 use Rattle.checking.specs.declared.Kind.{Kind}
 use Rattle.checking.specs.declared.Written.{Written}
 use Rattle.bytes_read.specs.Room.{Left, leftBy, LeftPromise}
-use Rattle.tag_lists.specs.TagLists.{tagBytes}
+use Rattle.tag_scan.specs.TagLists.{tagBytes}
 
 -- an entry's block is what is below it, and the row goes on where the block ends
 unfoldable pub rowFrom : Entries → ℕ → ℕ → ℕ → Forest

@@ -9,7 +9,7 @@ use Rattle.checked.specs.Menus.{ten}
 use Rattle.bytes_read.specs.Scans.{haltNumber}
 use Rattle.bytes_read.specs.Room.{Left, leftBy}
 use Rattle.records.specs.Records.{recordsScan, numbersFrom, bytesFrom, writeFault}
-use Rattle.tag_lists.specs.TagLists.{treeScan, numbersIn}
+use Rattle.tag_scan.specs.TagLists.{treeScan, numbersIn}
 use Rattle.tag_writing.specs.TagsBack.{backLeft}
 use Rattle.worked.specs.Case.{Case}
 

@@ -16,7 +16,7 @@ use Rattle.bytes_read.specs.Bytes.{marked}
 use Rattle.bytes_read.specs.Scans.{stepBy}
 use Rattle.bytes_read.specs.Room.{leftBy}
 use Rattle.records.specs.Records.{recordFault, recordsEnd, numbersFrom, bytesFrom, namelessFrom, writeFault}
-use Rattle.tag_lists.specs.TagLists.{tagBytes, closedWith, namelessAt, misnested, tagFault, tagNext, treeEnd, tagsFrom}
+use Rattle.tag_scan.specs.TagLists.{tagBytes, closedWith, namelessAt, misnested, tagFault, tagNext, treeEnd, tagsFrom}
 use Rattle.tag_writing.specs.TagsBack.{rowFrom, backLeft}
 use Rattle.worked.specs.Check as Check
 use Rattle.worked.specs.Axes as Axes

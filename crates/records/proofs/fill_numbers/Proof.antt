@@ -60,8 +60,11 @@ loop-less c = search needs
 
 loop-again : tie.Need-loop-again Inv-loop μ-loop
 loop-again c =
-    let l = c .before .before .before .before .before .before .before .before .before .loop in
-    (numbers-stored _ _ _ _ _ _ _ _ _ _ (l .inv .0) (omega arith) (c .before .before .put-entry .ensures) (cc) (cc) (cc) (cc), omega arith)
+    let l = c .before .before .before .before .before .before .before .before .before .loop in (
+      numbers-stored _ _ _ _ _ _ _ _ _ _ (l .inv .0) (omega arith) (c .before .before .put-entry .ensures)
+          (c .before .before .before .before .before .before .before .number-at .ensures) (c .before .before .before .before .before .before .number-at2 .ensures) (c .before .before .before .before .before .number-at3 .ensures) (c .before .before .before .before .number-at4 .ensures),
+      omega arith,
+    )
 
 same-length : tie.Need-same-length Inv-loop μ-loop
 same-length c = c .before .loop .inv .0 .long

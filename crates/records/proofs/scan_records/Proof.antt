@@ -1,5 +1,5 @@
 -- What was asked at the start is what is still asked at each record; a record without a fault moves on by its ten bytes.
-use mathlib.Core.Path.{_≡_, sym, _∙_}
+use mathlib.Core.Path.{sym, _∙_}
 use Prim.Native.Nat.{_≤_, _-_, _*_}
 use lib.ListN.{length}
 use native.Mathlib.Omega.{arith}
@@ -26,7 +26,7 @@ is-records-end-requires c κs = search needs
 returns : tie.Need-returns Inv-loop μ-loop
 returns c =
     let l = c .before .before .loop in
-    let came = going-end _ _ _ _ _ _ (l .inv .0) (cc) in
+    let came = going-end _ _ _ _ _ _ (l .inv .0) (sym (c .before .is-records-end .ensures) ∙ c .if1 .taken) in
     (came .state, came .number-is, omega arith)
 
 record-fault-requires : tie.Need-record-fault-requires Inv-loop μ-loop
@@ -35,7 +35,7 @@ record-fault-requires c κs = search needs
 returns-2 : tie.Need-returns-2 Inv-loop μ-loop
 returns-2 c =
     let l = c .before .before .before .before .loop in
-    let came = going-fault _ _ _ _ _ _ _ (l .inv .0) (cc) (c .before .record-fault .ensures) (omega arith) in
+    let came = going-fault _ _ _ _ _ _ _ (l .inv .0) (sym (c .before .before .before .is-records-end .ensures) ∙ c .before .before .if1 .left) (c .before .record-fault .ensures) (c .if2 .taken) in
     (came .state, came .number-is, omega arith)
 
 add-count : tie.Need-add-count Inv-loop μ-loop
@@ -43,15 +43,15 @@ add-count c = search needs
 
 loop-less : tie.Need-loop-less Inv-loop μ-loop
 loop-less c =
-    let p = record-passed _ _ (sym (c .before .record-fault .ensures) ∙ omega arith) in
+    let p = record-passed _ _ (sym (c .before .record-fault .ensures) ∙ c .if2 .left) in
     omega (arith, p .whole)
 
 loop-again : tie.Need-loop-again Inv-loop μ-loop
 loop-again c =
     let l = c .before .before .before .before .loop in
-    let z : recordFault (c .before .before .before .before .before .before .args .bytes .now) (recordAt (l .count)) ≡ 0 = sym (c .before .record-fault .ensures) ∙ omega arith in
+    let z = sym (c .before .record-fault .ensures) ∙ c .if2 .left in
     let p = record-passed _ _ z in
-    (going-next _ _ _ _ _ _ _ (l .inv .0) (cc) z (record-after (l .count)) (omega (arith, p .whole)) (omega arith), omega (arith, p .whole), omega (arith, p .room))
+    (going-next _ _ _ _ _ _ _ (l .inv .0) (sym (c .before .before .before .is-records-end .ensures) ∙ c .before .before .if1 .left) z (record-after (l .count)) (omega (arith, p .whole)) (omega arith), omega (arith, p .whole), omega (arith, p .room))
 
 pub scan-records-spec : {M : Type 1} → statement M
 scan-records-spec =

@@ -7,7 +7,7 @@ use native.Mathlib.Omega.{arith}
 use borrow.Author.Needs.{needs}
 use Rattle.trees.specs.Tags.{Tag}
 use Rattle.bytes_read.specs.Room.{frontWith}
-use Rattle.tag_lists.specs.TagLists.{tagsFrom}
+use Rattle.tag_scan.specs.TagLists.{tagsFrom}
 use Rattle.tag_lists.proofs.Build.{Builds, buildOf, builds-start, builds-end, builds-open, builds-close, build-tree, whole-numbers}
 use Rattle.tag_lists.proofs.build_tree.Statement.{statement}
 use Rattle.tag_lists.proofs.build_tree.Tie as tie
@@ -54,7 +54,8 @@ loop-again : tie.Need-loop-again Inv-loop μ-loop
 loop-again c =
     let l = c .before .before .before .before .before .before .before .before .loop in
     let a = c .before .before .before .before .before .before .before .before .before .before .before .args in (
-      builds-open _ _ _ _ _ _ _ _ _ (l .inv .0) (2 * a .count - (l .size + 1 + l .closed)) _ _ (omega arith) (cc) (cc) (c .before .before .open-entry .ensures),
+      builds-open _ _ _ _ _ _ _ _ _ (l .inv .0) (2 * a .count - (l .size + 1 + l .closed)) _ _ (omega arith)
+          (sym (c .before .before .before .before .before .before .is-marked .ensures) ∙ c .before .before .before .before .before .if1 .taken) (c .before .before .before .before .number-at .ensures) (c .before .before .open-entry .ensures),
       omega arith,
       omega arith,
     )
@@ -84,7 +85,8 @@ loop-again-2 : tie.Need-loop-again-2 Inv-loop μ-loop
 loop-again-2 c =
     let l = c .before .before .before .before .before .before .before .before .before .loop in
     let a = c .before .before .before .before .before .before .before .before .before .before .before .before .args in (
-      builds-close _ _ _ _ _ _ _ _ _ (l .inv .0) (2 * a .count - (l .size + (l .closed + 1))) _ _ (omega arith) (cc) (c .before .before .before .before .entry-number .ensures) (c .before .before .close-entry .ensures),
+      builds-close _ _ _ _ _ _ _ _ _ (l .inv .0) (2 * a .count - (l .size + (l .closed + 1))) _ _ (omega arith)
+          (sym (c .before .before .before .before .before .before .before .is-marked .ensures) ∙ c .before .before .before .before .before .before .if1 .left) (c .before .before .before .before .entry-number .ensures) (c .before .before .close-entry .ensures),
       omega arith,
       omega arith,
     )

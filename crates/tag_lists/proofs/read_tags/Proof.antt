@@ -14,7 +14,7 @@ most-requires : tie.Need-most-requires
 most-requires c κs = search needs
 
 scan-tags-requires : tie.Need-scan-tags-requires
-scan-tags-requires c κs = omega (arith, c .most .ensures, most-small (c .before .before .before .before .args .kind))
+scan-tags-requires c κs = search needs
 
 returns : tie.Need-returns
 returns c =
@@ -37,7 +37,7 @@ build-tree-requires c κs =
     let s = c .before .before .before .before .scan-tags .ensures in
     let e : c .before .before .before .before .scan-tags .result .fault ≡ 0 = omega arith in
     let z = sym (s .2) ∙ e in
-    (reading-place _ _ _ _ _ _ (s .1) z, s .3, omega arith, reading-tags _ _ _ _ _ _ (s .1) z)
+    (reading-place _ _ _ _ _ _ (s .1) z, omega (arith, s .3, most-small (c .before .before .before .before .before .before .before .before .before .args .kind)), omega arith, reading-tags _ _ _ _ _ _ (s .1) z)
 
 same-length : tie.Need-same-length
 same-length c = search needs

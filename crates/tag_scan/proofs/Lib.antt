@@ -1,0 +1,3 @@
+pub mod TagFaults
+pub mod TagsFrom
+pub mod Judging
