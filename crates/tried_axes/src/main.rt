@@ -1,42 +1,22 @@
 // Tries the axis, level and block calls at the edges that document 01 does not star, and prints what they say; what is printed is compared with the file stdout.
 // Ten and Five: a line for each axis, name and position has what each entry's own call answers, with a stroke after each. The other lines say their case.
-use blocks::LevelAnswer;
-use blocks::PlaceAnswer;
-use checking::PreRank;
-use checking::Refusal;
+mod largest;
+mod shown;
+mod told;
+
 use checking::Written;
+use largest::all_ranks;
+use largest::broad_tree;
+use largest::large;
+use largest::long_chain;
 use libc::STDOUT_FILENO;
-
-fn number(x: u64) {
-    io::write_all(STDOUT_FILENO, b" ");
-    io::print_decimal(STDOUT_FILENO, x);
-}
-
-fn wide(x: u16) -> u64 {
-    x as u64
-}
-
-fn stroke() {
-    io::write_all(STDOUT_FILENO, b" /");
-}
-
-fn end_line() {
-    io::write_all(STDOUT_FILENO, b"\n");
-}
-
-fn refused(refusal: Refusal) {
-    io::write_all(STDOUT_FILENO, b" refused");
-    number(wide(refusal.number));
-    number(wide(refusal.entry.0));
-}
-
-fn numbers(room: &[u16], len: usize) {
-    for i in 0..len {
-        if i < room.len() {
-            number(wide(room[i]));
-        }
-    }
-}
+use shown::end_line;
+use shown::number;
+use shown::numbers;
+use shown::refused;
+use shown::stroke;
+use shown::wide;
+use told::entries_told;
 
 fn next(c: u16) -> u16 {
     if c < 65535 { c + 1 } else { c }
@@ -185,117 +165,6 @@ fn signatures() {
     in_two(b"a second root", &orphan, &one, 11, 0);
     in_two(b"wrong post", &wrong_post, &one, 11, 0);
     in_two(b"wrong ff", &wrong_ff, &one, 11, 0);
-}
-
-// The level, the place and the length of the block of one entry.
-fn entry_told(sig: &[u16], i: u16) {
-    number(wide(i));
-    let level = blocks::level(sig, PreRank(i));
-    match level {
-        LevelAnswer::Level(l) => number(wide(l)),
-        LevelAnswer::Refused(refusal) => refused(refusal),
-    }
-    let place = blocks::block_place(sig, PreRank(i));
-    match place {
-        PlaceAnswer::Numbers(first, count) => {
-            number(first as u64);
-            number(count as u64);
-        }
-        PlaceAnswer::Refused(refusal) => refused(refusal),
-    }
-    let block = blocks::block(sig, PreRank(i));
-    number(block.len() as u64);
-    stroke();
-}
-
-// The same of every rank below `end`, so that the ranks on both sides of the entries are among them.
-fn entries_told(label: &[u8], sig: &[u16], end: u16) {
-    io::write_all(STDOUT_FILENO, label);
-    for i in 0..end {
-        entry_told(sig, i);
-    }
-    end_line();
-}
-
-// The length of an answer in a large tree, its first rank and its last.
-fn ends(sig: &[u16], contexts: &[u16], axis: u16, position: u16) {
-    let mut room = [0u16; 4096];
-    let answer = axes::axis(sig, contexts, axis, 0, position, &mut room);
-    number(wide(axis));
-    match answer {
-        Written::Length(len) => {
-            number(len as u64);
-            if 0 < len {
-                if len <= 4096 {
-                    number(wide(room[0]));
-                    number(wide(room[len - 1]));
-                }
-            }
-        }
-        Written::Refused(refusal) => refused(refusal),
-    }
-    stroke();
-}
-
-fn each_axis_ends(label: &[u8], sig: &[u16], contexts: &[u16], position: u16) {
-    io::write_all(STDOUT_FILENO, label);
-    for axis in 0..11u16 {
-        ends(sig, contexts, axis, position);
-    }
-    end_line();
-}
-
-// The ranks 1 to 4,096.
-fn all_ranks() -> [u16; 4096] {
-    let mut ranks = [0u16; 4096];
-    for i in 0..4096u16 {
-        ranks[i as usize] = i + 1;
-    }
-    ranks
-}
-
-// A chain of 4,096 entries of one name.
-fn long_chain() -> [u16; 16384] {
-    let mut sig = [0u16; 16384];
-    for i in 0..4096u16 {
-        let at = 4 * (i as usize);
-        sig[at] = 1;
-        sig[at + 1] = 4096 - i;
-        sig[at + 2] = 4097;
-        sig[at + 3] = i;
-    }
-    sig
-}
-
-// A root with 4,095 children of its name.
-fn broad_tree() -> [u16; 16384] {
-    let mut sig = [0u16; 16384];
-    for i in 0..4096u16 {
-        let at = 4 * (i as usize);
-        sig[at] = 1;
-        sig[at + 1] = i;
-        sig[at + 2] = i + 2;
-        sig[at + 3] = 1;
-    }
-    sig[1] = 4096;
-    sig[2] = 4097;
-    sig[3] = 0;
-    sig
-}
-
-// One large tree: the root, an entry in the middle, the last one, and all of them.
-fn large(label: &[u8], sig: &[u16], all: &[u16]) {
-    let root = [1u16];
-    let middle = [2048u16];
-    let last = [4096u16];
-    io::write_all(STDOUT_FILENO, label);
-    each_axis_ends(b"root", sig, &root, 0);
-    each_axis_ends(b"middle", sig, &middle, 0);
-    each_axis_ends(b"last", sig, &last, 0);
-    each_axis_ends(b"all", sig, all, 0);
-    each_axis_ends(b"middle, third", sig, &middle, 3);
-    entry_told(sig, 4096);
-    end_line();
 }
 
 fn main() {

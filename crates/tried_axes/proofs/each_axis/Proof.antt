@@ -4,10 +4,6 @@ use borrow.Author.Needs.{needs}
 use Prim.Native.Nat.{_-_, _≤_}
 use Rattle.tried_axes.proofs.each_axis.Statement.{statement}
 use Rattle.tried_axes.proofs.each_axis.Tie as tie
-use Rattle.tried_axes.proofs.each_axis.Reads as reads
-use Rattle.tried_axes.proofs.each_axis.Lts as lts
-use Rattle.io.proofs.write_all.Reads as write-all-reads
-use Rattle.tried_axes.proofs.each_name.Reads as each-name-reads
 
 abbrev Inv-loop : tie.InvT-loop
 Inv-loop label sig n names axis₀ axis = axis ≤ 11

@@ -4,9 +4,6 @@ use borrow.Author.Needs.{needs}
 use Prim.Native.Nat.{_-_, _≤_}
 use Rattle.tried_axes.proofs.each_axis_many.Statement.{statement}
 use Rattle.tried_axes.proofs.each_axis_many.Tie as tie
-use Rattle.tried_axes.proofs.each_axis_many.Reads as reads
-use Rattle.tried_axes.proofs.each_axis_many.Lts as lts
-use Rattle.tried_axes.proofs.many_contexts.Reads as many-contexts-reads
 
 abbrev Inv-loop : tie.InvT-loop
 Inv-loop sig axis₀ axis = axis ≤ 11

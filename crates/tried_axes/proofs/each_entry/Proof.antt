@@ -4,11 +4,6 @@ use borrow.Author.Needs.{needs}
 use Prim.Native.Nat.{_-_, _≤_}
 use Rattle.tried_axes.proofs.each_entry.Statement.{statement}
 use Rattle.tried_axes.proofs.each_entry.Tie as tie
-use Rattle.tried_axes.proofs.each_entry.Reads as reads
-use Rattle.tried_axes.proofs.each_entry.Lts as lts
-use Rattle.tried_axes.proofs.heading.Reads as heading-reads
-use Rattle.tried_axes.proofs.from_next.Reads as from-next-reads
-use Rattle.tried_axes.proofs.end_line.Reads as end-line-reads
 
 abbrev Inv-loop : tie.InvT-loop
 Inv-loop sig n axis name position c₀ c = c ≤ n

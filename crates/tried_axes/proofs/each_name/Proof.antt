@@ -4,9 +4,6 @@ use borrow.Author.Needs.{needs}
 use Prim.Native.Nat.{_-_, _≤_}
 use Rattle.tried_axes.proofs.each_name.Statement.{statement}
 use Rattle.tried_axes.proofs.each_name.Tie as tie
-use Rattle.tried_axes.proofs.each_name.Reads as reads
-use Rattle.tried_axes.proofs.each_name.Lts as lts
-use Rattle.tried_axes.proofs.each_position.Reads as each-position-reads
 
 abbrev Inv-loop : tie.InvT-loop
 Inv-loop sig n names axis name₀ name = name ≤ names

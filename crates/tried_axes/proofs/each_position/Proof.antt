@@ -4,9 +4,6 @@ use borrow.Author.Needs.{needs}
 use Prim.Native.Nat.{_-_, _≤_}
 use Rattle.tried_axes.proofs.each_position.Statement.{statement}
 use Rattle.tried_axes.proofs.each_position.Tie as tie
-use Rattle.tried_axes.proofs.each_position.Reads as reads
-use Rattle.tried_axes.proofs.each_position.Lts as lts
-use Rattle.tried_axes.proofs.each_entry.Reads as each-entry-reads
 
 abbrev Inv-loop : tie.InvT-loop
 Inv-loop sig n axis name p₀ p = p ≤ 7

@@ -2,10 +2,8 @@
 use native.Mathlib.Omega.{arith}
 use borrow.Author.Needs.{needs}
 use Prim.Native.Nat.{_-_, _≤_}
-use Rattle.tried_axes.proofs.long_chain.Statement.{statement}
-use Rattle.tried_axes.proofs.long_chain.Tie as tie
-use Rattle.tried_axes.proofs.long_chain.Reads as reads
-use Rattle.tried_axes.proofs.long_chain.Lts as lts
+use Rattle.tried_axes.proofs.largest.long_chain.Statement.{statement}
+use Rattle.tried_axes.proofs.largest.long_chain.Tie as tie
 
 abbrev Inv-loop : tie.InvT-loop
 Inv-loop sig₀ i₀ sig i = i ≤ 4096

@@ -2,12 +2,8 @@
 use native.Mathlib.Omega.{arith}
 use borrow.Author.Needs.{needs}
 use Prim.Native.Nat.{_-_, _≤_}
-use Rattle.tried_axes.proofs.numbers.Statement.{statement}
-use Rattle.tried_axes.proofs.numbers.Tie as tie
-use Rattle.tried_axes.proofs.numbers.Reads as reads
-use Rattle.tried_axes.proofs.numbers.Lts as lts
-use Rattle.tried_axes.proofs.number.Reads as number-reads
-use Rattle.tried_axes.proofs.wide.Reads as wide-reads
+use Rattle.tried_axes.proofs.shown.numbers.Statement.{statement}
+use Rattle.tried_axes.proofs.shown.numbers.Tie as tie
 
 abbrev Inv-loop : tie.InvT-loop
 Inv-loop room len i₀ i = i ≤ len

@@ -2,10 +2,8 @@
 use native.Mathlib.Omega.{arith}
 use borrow.Author.Needs.{needs}
 use Prim.Native.Nat.{_-_, _≤_}
-use Rattle.tried_axes.proofs.all_ranks.Statement.{statement}
-use Rattle.tried_axes.proofs.all_ranks.Tie as tie
-use Rattle.tried_axes.proofs.all_ranks.Reads as reads
-use Rattle.tried_axes.proofs.all_ranks.Lts as lts
+use Rattle.tried_axes.proofs.largest.all_ranks.Statement.{statement}
+use Rattle.tried_axes.proofs.largest.all_ranks.Tie as tie
 
 abbrev Inv-loop : tie.InvT-loop
 Inv-loop ranks₀ i₀ ranks i = i ≤ 4096

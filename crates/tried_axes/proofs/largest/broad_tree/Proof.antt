@@ -2,10 +2,8 @@
 use native.Mathlib.Omega.{arith}
 use borrow.Author.Needs.{needs}
 use Prim.Native.Nat.{_-_, _≤_}
-use Rattle.tried_axes.proofs.broad_tree.Statement.{statement}
-use Rattle.tried_axes.proofs.broad_tree.Tie as tie
-use Rattle.tried_axes.proofs.broad_tree.Reads as reads
-use Rattle.tried_axes.proofs.broad_tree.Lts as lts
+use Rattle.tried_axes.proofs.largest.broad_tree.Statement.{statement}
+use Rattle.tried_axes.proofs.largest.broad_tree.Tie as tie
 
 abbrev Inv-loop : tie.InvT-loop
 Inv-loop sig₀ i₀ sig i = i ≤ 4096

@@ -2,19 +2,14 @@
 use native.Mathlib.Omega.{arith}
 use borrow.Author.Needs.{needs}
 use Prim.Native.Nat.{_-_, _≤_}
-use Rattle.tried_axes.proofs.entries_told.Statement.{statement}
-use Rattle.tried_axes.proofs.entries_told.Tie as tie
-use Rattle.tried_axes.proofs.entries_told.Reads as reads
-use Rattle.tried_axes.proofs.entries_told.Lts as lts
-use Rattle.io.proofs.write_all.Reads as write-all-reads
-use Rattle.tried_axes.proofs.end_line.Reads as end-line-reads
-use Rattle.tried_axes.proofs.entry_told.Reads as entry-told-reads
+use Rattle.tried_axes.proofs.largest.each_axis_ends.Statement.{statement}
+use Rattle.tried_axes.proofs.largest.each_axis_ends.Tie as tie
 
 abbrev Inv-loop : tie.InvT-loop
-Inv-loop label sig end i₀ i = i ≤ end
+Inv-loop label sig contexts position axis₀ axis = axis ≤ 11
 
 abbrev μ-loop : tie.MeasureT-loop
-μ-loop label sig end i₀ i = end - i
+μ-loop label sig contexts position axis₀ axis = 11 - axis
 
 write-all-requires : tie.Need-write-all-requires Inv-loop μ-loop
 write-all-requires c κs = search needs
@@ -22,11 +17,11 @@ write-all-requires c κs = search needs
 loop-holds : tie.Need-loop-holds Inv-loop μ-loop
 loop-holds c = search needs
 
-entry-told-requires : tie.Need-entry-told-requires Inv-loop μ-loop
-entry-told-requires c κs = search needs
+ends-requires : tie.Need-ends-requires Inv-loop μ-loop
+ends-requires c κs = search needs
 
-add-i : tie.Need-add-i Inv-loop μ-loop
-add-i c = search needs
+add-axis : tie.Need-add-axis Inv-loop μ-loop
+add-axis c = search needs
 
 loop-less : tie.Need-loop-less Inv-loop μ-loop
 loop-less c = search needs
@@ -40,16 +35,16 @@ end-line-requires c κs = search needs
 returns : tie.Need-returns Inv-loop μ-loop
 returns c = search needs
 
-pub entries-told-spec : {M : Type 1} → statement M
-entries-told-spec =
+pub each-axis-ends-spec : {M : Type 1} → statement M
+each-axis-ends-spec =
     tie.close
     (tie.spec
     Inv-loop
     μ-loop
     write-all-requires
     loop-holds
-    entry-told-requires
-    add-i
+    ends-requires
+    add-axis
     loop-less
     loop-again
     end-line-requires
