@@ -13,3 +13,4 @@ pub mod Calls
 pub mod TreeExact
 pub mod RoundTrips
 pub mod CallsShut
+pub mod Tens

@@ -84,7 +84,7 @@ nameless-shift x y z w s k (suc n) =
 -- ---- read, then written
 
 module _ (b : List ℕ) where
-  record-passes : (st : Scan) → recordFault b st ≡ 0 → (st .at + 2 ≤ recordNext st .at) × (recordNext st .at ≤ length b)
+  pub record-passes : (st : Scan) → recordFault b st ≡ 0 → (st .at + 2 ≤ recordNext st .at) × (recordNext st .at ≤ length b)
   record-passes st h = let p = record-passed b st h in (omega arith, p .whole)
 
   abbrev Recorded : ℕ → Scan → Scan → Type 0
