@@ -4,6 +4,7 @@ pub mod Tree
 pub mod Nodes
 pub mod Ranks
 pub mod Signature
+pub mod Names
 pub mod Rows
 pub mod Facts
 pub mod Tags

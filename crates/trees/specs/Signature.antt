@@ -2,11 +2,12 @@
 --   cell w s i k        number k, from 0, of entry i, from 1, where an entry has w numbers; 0 past the end, and entry 0 reads as entry 1
 --   Entries             name, post, ff and fa as functions of the rank
 --   entriesOf w s       those of a list whose entries have w numbers
+--   entries s           how many entries a signature has
 --   rowSignature f i up c   the numbers of a row whose first element is entry i, below entry up, c elements closed before it
 --   signature t         the signature of a tree
-use Prim.Native.Nat.{ℕ, _+_, _-_, _*_}
+use Prim.Native.Nat.{ℕ, _+_, _-_, _*_, _/_}
 use mathlib.Core.List.{List, [], _∷_, _++_}
-use lib.ListN.{getD}
+use lib.ListN.{getD, length}
 use Rattle.trees.specs.Tree.{Forest, none, elem, size, Tree, whole}
 
 -- number k of entry i, where an entry has w numbers
@@ -27,6 +28,10 @@ entriesOf w s = record { name = λ i. cell w s i 0; post = λ i. cell w s i 1; f
 -- how many numbers an entry of a signature has
 abbrev pub width : ℕ
 width = 4
+
+-- n of a signature, m of a twig: the number of entries
+abbrev pub entries : List ℕ → ℕ
+entries s = length s / width
 
 -- each element closes after all below it, its block ends after all below it, and its children have it as their parent
 abbrev pub rowSignature : Forest → ℕ → ℕ → ℕ → List ℕ

@@ -17,16 +17,19 @@ use Rattle.walks.specs.Chained.{told, AllButLast}
 use native.Mathlib.Omega.{arith}
 
 module _ {S T : Type 0} (show : S → T) where
+  -- what a step comes to, read in the other rule's states
   abbrev pub asNext : Next S → Next T
   asNext (moved to) = moved (show to)
   asNext (answered to) = answered (show to)
   asNext (refused number entry) = refused number entry
 
+  -- what a turn hands back, read in the other rule's states
   abbrev pub asTurned : Turned S → Turned T
   asTurned t = record { state = show (t .state); steps = t .steps; halt = t .halt }
 
 module _ {S T : Type 0} (show : S → T) (Inv : S → Type 0) (done : S → Bool) (step : S → Next S) (done′ : T → Bool)
     (step′ : T → Next T) where
+  -- where Inv holds, the two rules agree on what is finished and on each step, and steps keep Inv
   pub record Mirrors : Type 0 where
     pub done-same : (s : S) → Inv s → done′ (show s) ≡ done s
     pub step-same : (s : S) → Inv s → done s ≡ false → step′ (show s) ≡ asNext show (step s)
@@ -76,6 +79,7 @@ module _ {S T : Type 0} (show : S → T) (Inv : S → Type 0) (done : S → Bool
 
     -- a chain of turns of the one is a chain of the other with the same budgets and the same count, and tells the same
     module _ {A : Type 0} (tell : Turned T → List A) (Q : Turned T → Type 0) where
+      -- the chain of the one rule that a chain of the other is
       pub record Mirrored (s : S) {x : T} {B K : ℕ} {t : Turned T} (c : Turns T done′ step′ x B K t) : Type 0 where
         pub last : Turned S
         pub count : ℕ

@@ -30,6 +30,7 @@ pub data Past (a b : List ℕ) : Type 0 where
   greater : Before a b → Past a b
   longer : {r : ℕ} → Extends a b (suc r) → Past a b
 
+-- the walk b is further on than a: it has ended and a has not, or its mark is later
 abbrev pub On : Walk → Walk → Type 0
 On a b = (walkDone a ≡ false) × ((walkDone b ≡ true) ⊎ Past (mark a) (mark b))
 

@@ -44,6 +44,7 @@ abbrev fiveTest : List ℕ → ℕ → Bool
 fiveTest [] c = ltb (suc c) (ff c)
 fiveTest (x ∷ xs) c = true
 
+-- the twig 1(1) on Five: node 1 stands at an entry that has some entry below it, node 2 at any entry below node 1's
 abbrev pub five : Choices
 five = record { begin = fiveBegin; next = λ xs c. suc c; end = fiveEnd; test = fiveTest }
 

@@ -6,7 +6,6 @@
 --   wholeBefore                 a comes before j, with all that is below it
 --   siblings, siblingBefore     two elements with one parent; a comes first
 --   onAxis axis n parent c j    j is on the axis of the context c
---   passes test a               the name a passes the name test
 --   chosen                      on the axis, and its name passes
 --   pth axis p P j              j is the p-th element that passes P, as the axis counts
 --   kept axis p P j             the same, or all that pass P where there is no position
@@ -18,6 +17,7 @@ use mathlib.Core.Bool.{Bool, true, false, not, _&&_, _||_}
 use lib.Dec.{ltb, eqb}
 use lib.ListN.{length}
 use Rattle.turns.specs.Pick.{pick}
+use Rattle.trees.specs.Names.{passes}
 use Rattle.xpath.specs.Select.{upTo, some}
 
 -- a is the parent of j
@@ -33,6 +33,7 @@ met parent (suc k) a j = pick (eqb (parent j) 0) false (parentOf parent a j || m
 abbrev pub ancestorOf : ℕ → (ℕ → ℕ) → ℕ → ℕ → Bool
 ancestorOf n parent a j = met parent n a j
 
+-- a is j itself or an ancestor of j
 unfoldable pub ancestorOrSelf : ℕ → (ℕ → ℕ) → ℕ → ℕ → Bool
 ancestorOrSelf n parent a j = eqb a j || ancestorOf n parent a j
 
@@ -63,10 +64,6 @@ onAxis axis n parent c j =
     (pick (eqb axis 8) (wholeBefore n parent j c)
     (pick (eqb axis 9) (siblingBefore parent c j)
     (siblingBefore parent j c))))))))))
-
--- "Code 0 stands for any name, in a twig or a name test only."
-unfoldable pub passes : ℕ → ℕ → Bool
-passes test a = eqb test 0 || eqb test a
 
 -- on the axis, and its name passes the test
 unfoldable pub chosen : ℕ → ℕ → (ℕ → ℕ) → (ℕ → ℕ) → ℕ → ℕ → ℕ → Bool

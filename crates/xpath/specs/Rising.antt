@@ -15,6 +15,7 @@ use lib.Dec.{ltb, leb}
 use borrow.Author.Tests.{lt-ltb, le-ltb, le-leb, lt-leb, ltb-true, ltb-false, leb-true}
 use Rattle.xpath.specs.Select.{rises, within}
 
+-- each number is above the one before it, the first above last, and none is over n
 unfoldable pub risesFrom : ℕ → ℕ → List ℕ → Bool
 risesFrom n last [] = true
 risesFrom n last (c ∷ l) = ltb last c && (leb c n && risesFrom n c l)

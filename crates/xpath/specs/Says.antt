@@ -29,9 +29,10 @@ use Rattle.trees.specs.NodeRanks.{pre-low, pre-high, pre-injective}
 use Rattle.trees.specs.NodeOrder.{before-pre, pre-before}
 use Rattle.trees.specs.NodeAncestors.{ancestor-below, below-ancestor}
 use Rattle.trees.specs.Meanings.{name-is, below-ff, ff-below, parent-fa, fa-parent, fa-some}
+use Rattle.trees.specs.Names.{passes}
 use Rattle.xpath.specs.Select.{upTo, some}
 use Rattle.xpath.specs.SelectLaws.{up-same}
-use Rattle.xpath.specs.Axes.{parentOf, ancestorOf, ancestorOrSelf, wholeBefore, siblingBefore, onAxis, passes, chosen, pth, kept, inAnswer}
+use Rattle.xpath.specs.Axes.{parentOf, ancestorOf, ancestorOrSelf, wholeBefore, siblingBefore, onAxis, chosen, pth, kept, inAnswer}
 use Rattle.xpath.specs.OnNodes.{Lists, Siblings, OnAxis, Passes, Chosen, Pth, Kept, InUnion}
 use Rattle.xpath.specs.NodeLists.{Selected, selected, lists-unique}
 use Rattle.xpath.specs.Ancestors.{inside-yes, inside-no}

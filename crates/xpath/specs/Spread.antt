@@ -106,10 +106,12 @@ pub record Seen (P : ℕ → Bool) (lo hi c : ℕ) : Type 0 where
   pub high : c < hi
   pub passes : P c ≡ true
 
+-- x is the greatest of the numbers v c for the c in S, or 0 where S is empty
 pub record Greatest (S : ℕ → Type 0) (v : ℕ → ℕ) (x : ℕ) : Type 0 where
   pub bound : (c : ℕ) → S c → v c ≤ x
   pub met : (x ≡ 0) ⊎ ((c : ℕ) × S c × (v c ≡ x))
 
+-- x is the least of the numbers v c for the c in S, or 65,535 where S is empty
 pub record Least (S : ℕ → Type 0) (v : ℕ → ℕ) (x : ℕ) : Type 0 where
   pub bound : (c : ℕ) → S c → x ≤ v c
   pub met : (x ≡ 65535) ⊎ ((c : ℕ) × S c × (v c ≡ x))
@@ -143,6 +145,7 @@ more-down P k n l = record {
 unfoldable pub raisedTo : Bool → ℕ → ℕ → ℕ
 raisedTo b x y = pick b (pick (ltb x y) y x) x
 
+-- the lesser where the rank passes
 unfoldable pub loweredTo : Bool → ℕ → ℕ → ℕ
 loweredTo b x y = pick b (pick (ltb y x) y x) x
 

@@ -17,6 +17,7 @@ use Rattle.trees.specs.Facts.{Facts}
 use Rattle.xpath.specs.Axes.{parentOf, siblingBefore, onAxis}
 use Rattle.xpath.specs.Spread.{spreadOf, Seen, More, hit, none}
 
+-- B passes just the ranks from 1 to n that are the parent of one in S
 pub record Kids (S : ℕ → Type 0) (up : ℕ → ℕ) (n : ℕ) (B : ℕ → Bool) : Type 0 where
   pub yes : (c : ℕ) → S c → 1 ≤ up c → up c ≤ n → B (up c) ≡ true
   pub no : (p : ℕ) → 1 ≤ p → p ≤ n → B p ≡ true → (c : ℕ) × S c × (up c ≡ p)

@@ -11,9 +11,10 @@ use native.Mathlib.Omega.{arith}
 use lib.ListN.{length, getD}
 use lib.Dec.{eqb}
 use borrow.Author.Tests.{eq-eqb, eqb-true}
+use Rattle.trees.specs.Names.{passes}
 use Rattle.xpath.specs.Select.{some}
 use Rattle.xpath.specs.SelectLaws.{some-same}
-use Rattle.xpath.specs.Axes.{ancestorOf, ancestorOrSelf, onAxis, passes, chosen, kept, inAnswer}
+use Rattle.xpath.specs.Axes.{ancestorOf, ancestorOrSelf, onAxis, chosen, kept, inAnswer}
 use Rattle.xpath.specs.Kept.{kept-none}
 use Rattle.xpath.specs.Spread.{anyTo, any-yes, any-no, spreadOf, isContext, spread-some}
 
