@@ -15,7 +15,7 @@ use Rattle.turns.specs.Turn.{Halt, Turned, turn, Moves, Steps}
 use Rattle.turns.specs.Chains as Chains
 use Rattle.turns.specs.Chains.{chain-steps, chain-ends, chain-finished, Reached, Underway}
 use Rattle.trees.specs.Tree.{Forest, none, elem, size, Tree, whole, Grown}
-use Rattle.trees.specs.Signature.{Entries, cell, entriesOf, width, signature}
+use Rattle.trees.specs.Signature.{Entries, cell, entriesOf, width, signature, entries}
 use Rattle.trees.specs.Rows.{Holds}
 use Rattle.trees.specs.Listed.{signature-length, listed-whole, whole-listed}
 use Rattle.trees.specs.Unique.{signature-unique}
@@ -33,7 +33,7 @@ use Rattle.checking.proofs.Cases.{accepted-yes, fresh-ranges}
 use Rattle.checking.proofs.Runs.{Sized, length-sized, length-fine}
 use Rattle.checked.specs.Walked.{Run, Fine, walk-tree}
 use Rattle.checked.specs.Parsed.{Read, accepted-read}
-use Rattle.checked.specs.Yields.{Words, Yields, Turns, entries}
+use Rattle.checked.specs.Yields.{Words, Yields, Turns}
 use Rattle.checked.specs.Named.{root-fine, fine-named}
 use Rattle.checked.specs.Apart.{halt-told, told-halt, stopOf}
 use Rattle.checked.specs.Chained.{Fits, Ran, chain-ran, chain-length, run-moves}
@@ -137,6 +137,7 @@ module _ (k : Kind) (s : List ℕ) where
       pub steps : K ≡ B
       pub stop : r .stop ≡ Stop.Budget
 
+    -- turns with B steps to spend in all come to the end after 2×n steps, or spend all B and are stopped by the budget
     abbrev pub Came : ℕ → ℕ → CheckTurn → Type 0
     Came B K r = Complete B K r ⊎ Short B K r
 

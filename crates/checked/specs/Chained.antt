@@ -15,7 +15,7 @@ use Rattle.turns.specs.Turn.{Halt, Turned, turn, moved, answered, Moves, stay, 
 use Rattle.turns.specs.Counts.{counted}
 use Rattle.turns.specs.Chains as Chains
 use Rattle.turns.specs.Chains.{Chain, one, more}
-use Rattle.trees.specs.Signature.{entriesOf, width}
+use Rattle.trees.specs.Signature.{entriesOf, width, entries}
 use Rattle.checking.specs.declared.Kind.{Kind}
 use Rattle.checking.specs.declared.CheckState.{CheckState}
 use Rattle.checking.specs.declared.CheckTurn.{CheckTurn}
@@ -27,7 +27,7 @@ use Rattle.checking.specs.Turn.{Handed, TurnPromise, runOf, turnOf, lengthFault
 use Rattle.checking.proofs.Cases.{range-yes, range-inverse}
 use Rattle.checking.proofs.Inverse.{step-ranges, step-silent}
 use Rattle.checking.proofs.Runs.{turn-run, turn-length, turn-range}
-use Rattle.checked.specs.Yields.{Turns, entries}
+use Rattle.checked.specs.Yields.{Turns}
 use Rattle.checked.specs.Apart.{told-halt, stopOf}
 
 module _ (k : Kind) (s : List ℕ) where

@@ -19,7 +19,7 @@ use Rattle.turns.specs.Turn.{Halt, Turned, turn, Next, moved, refused, Moves, s
 use Rattle.turns.specs.Counts as Counts
 use Rattle.turns.specs.Laws as Laws
 use Rattle.turns.specs.Chains as Chains
-use Rattle.trees.specs.Signature.{Entries, entriesOf, width}
+use Rattle.trees.specs.Signature.{Entries, entriesOf, width, entries}
 use Rattle.checking.specs.declared.Kind.{Kind}
 use Rattle.checking.specs.declared.CheckState.{CheckState}
 use Rattle.checking.specs.declared.CheckTurn.{CheckTurn}
@@ -34,7 +34,7 @@ use Rattle.checking.specs.Whole.{WholePromise}
 use Rattle.checking.proofs.Inverse.{Opens, Closes, step-inverse, step-grows, step-silent}
 use Rattle.checking.proofs.Runs.{moves-grow, moves-ranges, length-sized}
 use Rattle.checking.proofs.Cases.{accepted-yes, fresh-ranges}
-use Rattle.checked.specs.Yields.{Turns, entries}
+use Rattle.checked.specs.Yields.{Turns}
 use Rattle.checked.specs.Apart.{handed-unique, verdict-apart, halt-told, told-halt}
 use Rattle.checked.specs.Chained.{Fits, Judged, refuses, runs, judged, turn-is, promise-is, steps-kept, Ran, chain-ran, run-moves}
 

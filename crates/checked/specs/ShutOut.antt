@@ -18,7 +18,7 @@ use Rattle.turns.specs.Turn.{Halt, Turned, run, turn}
 use Rattle.turns.specs.Demand.{Faithful, ours-faithful, faithful-turn, shut-out-state, shut-out-count}
 use Rattle.turns.specs.Chains.{Chain, one, more}
 use Rattle.trees.specs.Tree.{none, Tree}
-use Rattle.trees.specs.Signature.{cell, entriesOf, width}
+use Rattle.trees.specs.Signature.{cell, entriesOf, width, entries}
 use Rattle.checking.specs.declared.Kind.{Kind}
 use Rattle.checking.specs.declared.CheckState.{CheckState}
 use Rattle.checking.specs.declared.CheckTurn.{CheckTurn}
@@ -31,7 +31,7 @@ use Rattle.checking.specs.Turn.{TurnPromise, turnOf, turnWithin, lengthFault}
 use Rattle.checking.specs.Whole.{WholePromise}
 use Rattle.checking.proofs.Cases.{fresh-ranges}
 use Rattle.checked.specs.Menus.{single, twoRoots}
-use Rattle.checked.specs.Yields.{Words, Yields, Exactly, Ended, Turns, entries}
+use Rattle.checked.specs.Yields.{Words, Yields, Exactly, Ended, Turns}
 use Rattle.checked.specs.Apart.{stopOf, turnedOf, handed-turned}
 use Rattle.checked.specs.Chained.{Fits, promise-is}
 use Rattle.checked.specs.Wholly.{handed, handed-is, accepted-exactly, whole-exactly, never-refused}

@@ -46,6 +46,7 @@ module _ (any : Bool) (n : ℕ) (e : Entries) where
     pub some : 1 ≤ e .fa j
     pub low : e .fa j < q
 
+  -- what comes after the row below q: no entry, or one whose parent was opened before q
   abbrev pub After : ℕ → ℕ → Type 0
   After j q = (n < j) ⊎ Next j q
 

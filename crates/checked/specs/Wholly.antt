@@ -1,6 +1,7 @@
 -- The whole check, over its promise: accepted exactly if a tree yields the list; and what an accepted signature gives the layers above.
 --   accepted-exactly    chains of public turns: the end is reported exactly if a tree yields the list
 --   check-two-n         and by then the returned steps add up to 2×n
+--   yields-accepted     the whole check accepts what a tree yields
 --   whole-exactly       the whole check accepts exactly if a tree yields the list
 --   accepted-tree       an accepted signature has a tree, with its facts: the one interface for later layers
 --   tree-unique         the tree is unique
@@ -12,7 +13,7 @@ use native.Mathlib.Omega.{arith}
 use Rattle.turns.specs.Turn.{Halt, Turned}
 use Rattle.turns.specs.Chains.{one}
 use Rattle.trees.specs.Tree.{Tree, size, whole}
-use Rattle.trees.specs.Signature.{signature, entriesOf, width}
+use Rattle.trees.specs.Signature.{signature, entriesOf, width, entries}
 use Rattle.trees.specs.Unique.{signature-unique}
 use Rattle.checking.specs.declared.Kind.{Kind}
 use Rattle.checking.specs.declared.CheckState.{CheckState}
@@ -24,7 +25,7 @@ use Rattle.checking.specs.Rule.{fresh}
 use Rattle.checking.specs.Stops.{Told, told, haltTold, verdictTold}
 use Rattle.checking.specs.Turn.{Handed, TurnPromise, turnOf}
 use Rattle.checking.specs.Whole.{wholeOf, WholePromise}
-use Rattle.checked.specs.Yields.{Words, Yields, Exactly, Ended, Turns, entries}
+use Rattle.checked.specs.Yields.{Words, Yields, Exactly, Ended, Turns}
 use Rattle.checked.specs.Apart.{stopOf, halt-told, verdict-apart, told-stop}
 use Rattle.checked.specs.Accepted.{Tree-of, tree-of, Sound, chain-sound, accepted-sound, Came, chain-complete}
 use Rattle.checked.specs.Walked.{Fine}
@@ -81,20 +82,21 @@ module _ (k : Kind) (s : List ℕ) where
   pub accepted-tree : WholePromise k s Verdict.Accepted → AcceptedTree
   accepted-tree p = let x = whole-sound p in record { tree = x .tree; of = x .read; named = x .named; small = x .small }
 
+  -- the whole check accepts what a tree yields
+  pub yields-accepted : Yields k s → WholePromise k s Verdict.Accepted
+  yields-accepted y = ap told (sym (ended (chain-complete k s y whole-turn))) ∙ told-stop (turnOf k s (2 * most k + 1) fresh .halt)
+    where
+      ended : Came k s y (2 * most k + 1) (turnOf k s (2 * most k + 1) fresh .steps) (handed (turnOf k s (2 * most k + 1) fresh))
+          → handed (turnOf k s (2 * most k + 1) fresh) .stop ≡ Stop.End
+      ended (inl q) = q .stop
+      ended (inr q) = absurd (omega (arith, q .short, tree-of s (y .tree) (y .is) .count, y .grown .small))
+
   -- demand 2 of the whole check
   pub whole-exactly : Words s → (v : Verdict) → WholePromise k s v → Exactly k s (v ≡ Verdict.Accepted)
   whole-exactly w v p = record {
     sound = λ h. accepted-sound k s w whole-turn (whole-end (subst (WholePromise k s) h p)) .0;
-    complete = λ y. verdict-apart v Verdict.Accepted (p ∙ ap haltTold (ended y));
+    complete = λ y. verdict-apart v Verdict.Accepted (p ∙ sym (yields-accepted y));
   }
-    where
-      fits : Yields k s → 2 * entries s ≤ 2 * most k + 1
-      fits y = omega (arith, tree-of s (y .tree) (y .is) .count, y .grown .small)
-
-      ended : Yields k s → turnOf k s (2 * most k + 1) fresh .halt ≡ Halt.end
-      ended y =
-          halt-told (turnOf k s (2 * most k + 1) fresh .halt) Halt.end
-          (sym (told-stop (turnOf k s (2 * most k + 1) fresh .halt)) ∙ ap told (accepted-exactly w whole-turn .complete (fits y) y))
 
 -- the tree is unique
 pub tree-unique : (k : Kind) (s : List ℕ) (a b : Yields k s) → a .tree ≡ b .tree

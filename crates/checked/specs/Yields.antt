@@ -4,14 +4,13 @@
 --   Exactly k s P    P exactly if a tree of kind k yields s
 --   Ended k s B P    the same of turns that may spend B steps in all: P says that a tree yields s, and 2×n steps are enough for P
 --   Turns k s st B K r   public turns of the check of s from st: budgets B and steps K in all, the last one answered r
---   entries s        how many entries the list has
 use Prim.Native.Nat.{ℕ, _/_, _*_, _<_, _≤_}
 use mathlib.Core.Path.{_≡_}
 use mathlib.Core.List.{List}
 use lib.ListN.{length, getD}
 use Rattle.turns.specs.Chains.{Chain}
 use Rattle.trees.specs.Tree.{Tree, Grown}
-use Rattle.trees.specs.Signature.{signature, width}
+use Rattle.trees.specs.Signature.{signature, width, entries}
 use Rattle.checking.specs.declared.Kind.{Kind}
 use Rattle.checking.specs.declared.CheckState.{CheckState}
 use Rattle.checking.specs.declared.CheckTurn.{CheckTurn}
@@ -32,10 +31,6 @@ pub record Yields (k : Kind) (s : List ℕ) : Type 0 where
 pub record Exactly (k : Kind) (s : List ℕ) (Said : Type 0) : Type 0 where
   pub sound : Said → Yields k s
   pub complete : Yields k s → Said
-
--- n, the number of entries
-abbrev pub entries : List ℕ → ℕ
-entries s = length s / width
 
 -- turns that may spend B steps in all say it only if a tree yields the list, and with 2×n steps to spend they do if one does
 pub record Ended (k : Kind) (s : List ℕ) (B : ℕ) (Said : Type 0) : Type 0 where

@@ -4,9 +4,8 @@
 --   step-…         the whole step
 --   accepted-…     the end
 --   range-…        the ranges of a saved state; fresh-ranges
---   entry-ends     where an entry ends
-use Prim.Native.Nat.{ℕ, zero, suc, _+_, _-_, _*_, _≤_, _<_}
-use native.Mathlib.Nat.{not-suc-le-zero, mul-suc}
+--   number-…       a number past the end, and of entry 0
+use Prim.Native.Nat.{ℕ, _+_, _-_, _≤_, _<_}
 use native.Mathlib.Omega.{arith}
 use mathlib.Core.Path.{_≡_, refl, ap, sym, _∙_}
 use mathlib.Core.List.{List}
@@ -122,22 +121,6 @@ module _ (n : ℕ) (st : CheckState) where
 
 -- the ranges
 module _ (n : ℕ) (st : CheckState) where
-  pub range-low : st .next .0 < 1 → inRange n st ≡ false
-  unfolding inRange
-  range-low h = simp (lt-leb _ _ h)
-
-  pub range-high : n + 1 < st .next .0 → inRange n st ≡ false
-  unfolding inRange
-  range-high h = simp (lt-leb _ _ h, and-false)
-
-  pub range-top : st .next .0 ≤ st .top .0 → inRange n st ≡ false
-  unfolding inRange
-  range-top h = simp (le-ltb _ _ h, and-false)
-
-  pub range-closed : st .next .0 ≤ st .closed .0 → inRange n st ≡ false
-  unfolding inRange
-  range-closed h = simp (le-ltb _ _ h, and-false)
-
   pub range-yes : Ranges n st → inRange n st ≡ true
   unfolding inRange
   range-yes r = simp (le-leb _ _ (r .some), le-leb _ _ (r .last), lt-ltb _ _ (r .top), lt-ltb _ _ (r .closed))
@@ -160,11 +143,6 @@ pub fresh-ranges : (n : ℕ) → Ranges n fresh
 fresh-ranges n = record { some = omega arith; last = omega arith; top = omega arith; closed = omega arith }
 
 -- ---- entries
-
--- entry i ends where its w numbers do
-pub entry-ends : (w i : ℕ) → 1 ≤ i → w * i ≡ w * (i - 1) + w
-entry-ends w zero h = absurd (not-suc-le-zero h)
-entry-ends w (suc i) h = mul-suc w i ∙ ap (λ (x : ℕ). w * x + w) (omega arith)
 
 -- past the end a number is 0
 pub number-past : (s : List ℕ) (at : ℕ) → length s ≤ at → 0 ≡ getD s at 0

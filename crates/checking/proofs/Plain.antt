@@ -1,35 +1,24 @@
--- The check in plain numbers: which case holds under which facts, and that a step in plain numbers is a step of the written rule.
+-- The step of the check in plain numbers: which case holds under which facts, and that it is a step of the written rule.
 --   number-…, entry-is     what a step comes to, by its number and entry
---   parent-…, fault-…      rule 1
+--   parent-is, fault-…     rule 1
 --   opened-…, top-…        rule 2, and the innermost open element after a step
 --   close-taken, close-entry   a close that is not refused, and the entry that a refused one names
 --   step-entry, step-opens, step-closes   the step by rule 1, by rule 2, or by the others
 --   step-taken             where a step that is not refused leads
---   here-…, reason-…, spent-told   what stops a check that may take no step
---   told-…                 a stop reason by its numbers
---   start-…, turn-refused, turn-started   how a turn starts
-use Prim.Native.Nat.{ℕ, _+_, _-_, _/_, _%_, _≤_, _<_}
+use Prim.Native.Nat.{ℕ, _+_, _-_, _≤_, _<_}
 use native.Mathlib.Omega.{arith}
 use native.Mathlib.Decide.{ℕ-discrete}
 use mathlib.Core.Path.{_≡_, refl, ap, sym, _∙_}
-use mathlib.Core.List.{List}
-use mathlib.Core.Bool.{Bool, true, false, _&&_, false≢true}
-use lib.ListN.{length}
+use mathlib.Core.Bool.{Bool, true, false, not, _&&_, _||_, false≢true}
 use lib.Dec.{ltb, leb, eqb}
 use borrow.Author.Tests.{le-leb, lt-leb, eq-eqb, ne-eqb, eqb-true, eqb-false}
 use Rattle.turns.specs.Pick.{pick}
-use Rattle.turns.specs.Turn.{Next, moved, answered, refused, Turned, Halt}
-use Rattle.trees.specs.Signature.{Entries, entriesOf, width}
+use Rattle.turns.specs.Turn.{Next, moved, answered, refused}
+use Rattle.trees.specs.Signature.{Entries}
 use Rattle.checking.specs.declared.CheckState.{CheckState}
-use Rattle.checking.specs.declared.Kind.{Kind}
-use Rattle.checking.specs.declared.steps.Reached.{Reached}
-use Rattle.checking.specs.Kinds.{most}
-use Rattle.checking.specs.Rule.{at, closeOf, stepOf, nameless, secondRoot, accepted, Ranges, inRange}
-use Rattle.checking.specs.Stops.{haltTold}
-use Rattle.checking.specs.Turn.{lengthFault, turnWithin, runOf, refusedAt}
-use Rattle.checking.specs.Plain.{numberOf, entryOf, noParent, entryFault, opened, topAfter, reasonHere, toldAs, Reaches, startFault}
-use Rattle.checking.proofs.Cases.{root-first, root-second, root-below, close-none, range-inverse}
-use Rattle.checking.proofs.Runs.{length-sized, turn-run, most-small}
+use Rattle.checking.specs.Rule.{at, closeOf, stepOf, nameless, secondRoot}
+use Rattle.checking.specs.Plain.{numberOf, entryOf, noParent, entryFault, opened, topAfter}
+use Rattle.checking.proofs.Cases.{close-none}
 
 -- ---- what a step comes to
 
@@ -58,23 +47,14 @@ number-refused (refused a b) u v p q h = let g : u ≡ a = p in let k : v ≡ b 
 
 -- ---- rule 1
 
-module _ (i up : ℕ) where
-  pub parent-late : i ≤ up → noParent i up ≡ true
-  unfolding noParent
-  parent-late h = simp (le-leb _ _ h)
-
-  module _ (l : up < i) where
-    pub parent-first : i ≤ 1 → noParent i up ≡ false
-    unfolding noParent
-    parent-first h = simp (lt-leb _ _ l, root-first i up h)
-
-    pub parent-none : 1 < i → up ≡ 0 → noParent i up ≡ true
-    unfolding noParent
-    parent-none h z = simp (lt-leb _ _ l, root-second i up h z)
-
-    pub parent-fits : (up ≡ 0 → ⊥) → noParent i up ≡ false
-    unfolding noParent
-    parent-fits z = simp (lt-leb _ _ l, root-below i up z)
+-- the code's test is the written one
+pub parent-is : (i up : ℕ) → (leb i up || (ltb 1 i && eqb up 0)) ≡ noParent i up
+unfolding noParent secondRoot
+parent-is i up = go (leb i up)
+  where
+    go : (a : Bool) → (a || (ltb 1 i && eqb up 0)) ≡ pick a true (ltb 1 i && eqb up 0)
+    go true = refl
+    go false = refl
 
 module _ (any : Bool) (n : ℕ) (e : Entries) (i : ℕ) where
   pub fault-past : n < i → entryFault any n e i ≡ 0
@@ -161,6 +141,15 @@ module _ (e : Entries) (i top closed : ℕ) where
       go false false true true false p q h = refl
       go false false true true true p q h = absurd (h refl)
 
+-- neither is so
+pub neither : (f top : ℕ) → (not (eqb f 0) || eqb top 0) ≡ false → (f ≡ 0) × (top ≡ 0 → ⊥)
+neither f top = go (eqb f 0) (eqb top 0) refl refl
+  where
+    go : (a b : Bool) → eqb f 0 ≡ a → eqb top 0 ≡ b → (not a || b) ≡ false → (f ≡ 0) × (top ≡ 0 → ⊥)
+    go true false p q h = (eqb-true _ _ p, eqb-false _ _ q)
+    go true true p q h = absurd (false≢true (sym h))
+    go false b p q h = absurd (false≢true (sym h))
+
 -- ---- the step
 
 -- a state by equal numbers
@@ -222,6 +211,17 @@ module _ (any : Bool) (n : ℕ) (e : Entries) (i top closed : ℕ) where
       → stepOf any n e (at i top closed) ≡ closeOf e (at i top closed)
   step-faulty f h = step-closes f (λ o. h (number-moved _ _ (step-opens f o)))
 
+  -- refused by rule 1, or with nothing open, a step names the next entry
+  pub step-entry-next : (f : ℕ) → f ≡ entryFault any n e i → (not (eqb f 0) || eqb top 0) ≡ true → (numberOf (stepOf any n e (at i top closed)) ≡ 0 → ⊥)
+      → entryOf (stepOf any n e (at i top closed)) ≡ i
+  step-entry-next f p t h = from (ℕ-discrete f 0)
+    where
+      from : Dec (f ≡ 0) → entryOf (stepOf any n e (at i top closed)) ≡ i
+      from (no q) = entry-is _ _ _ (step-entry (λ w. q (p ∙ w)))
+      from (yes q) =
+          let z : (not true || eqb top 0) ≡ true = rw (eq-eqb f 0 q) at t in
+          entry-is _ _ _ (step-faulty (sym p ∙ q) h ∙ close-none e (at i top closed) (eqb-true _ _ z))
+
   pub step-entry-top : entryFault any n e i ≡ 0 → (numberOf (stepOf any n e (at i top closed)) ≡ 0 → ⊥) → (top ≡ 0 → ⊥) → (closed ≡ i - 1 → ⊥)
       → entryOf (stepOf any n e (at i top closed)) ≡ top
   step-entry-top f h s r =
@@ -251,124 +251,3 @@ module _ (any : Bool) (n : ℕ) (e : Entries) (i top closed : ℕ) where
           let l = opened-small n e i top in
           c ∙ close-taken e i top closed (sym (ap numberOf c) ∙ z)
           ∙ ap moved (at-same (omega (arith, h, p, l)) (sym (top-closed o i (e .fa top) h) ∙ sym q) (omega (arith, h, p, l)))
-
--- ---- what stops a check that may take no step
-
-module _ (n i top : ℕ) where
-  pub here-before : (i ≡ n + 1 → ⊥) → reasonHere n i top ≡ 2
-  unfolding reasonHere
-  here-before h = simp (ne-eqb _ _ h)
-
-  module _ (h : i ≡ n + 1) where
-    pub here-end : top ≡ 0 → reasonHere n i top ≡ 1
-    unfolding reasonHere
-    here-end t = simp (eq-eqb _ _ h, eq-eqb _ _ t)
-
-    pub here-inside : (top ≡ 0 → ⊥) → reasonHere n i top ≡ 2
-    unfolding reasonHere
-    here-inside t = simp (eq-eqb _ _ h, ne-eqb _ _ t)
-
-  module _ (closed : ℕ) where
-    pub reason-end : reasonHere n i top ≡ 1 → accepted n (at i top closed) ≡ true
-    unfolding reasonHere accepted
-    reason-end = go (eqb i (n + 1)) (eqb top 0)
-      where
-        go : (a b : Bool) → _≡_ {A = ℕ} (pick a (pick b 1 2) 2) 1 → (a && b) ≡ true
-        go true true h = refl
-        go true false h = absurd (omega arith)
-        go false b h = absurd (omega arith)
-
-    pub reason-on : (reasonHere n i top ≡ 1 → ⊥) → accepted n (at i top closed) ≡ false
-    unfolding reasonHere accepted
-    reason-on = go (eqb i (n + 1)) (eqb top 0)
-      where
-        go : (a b : Bool) → (_≡_ {A = ℕ} (pick a (pick b 1 2) 2) 1 → ⊥) → (a && b) ≡ false
-        go true true h = absurd (h refl)
-        go true false h = refl
-        go false b h = refl
-
-    pub spent-told : (r : ℕ) → r ≡ reasonHere n i top → toldAs r 0 0 ≡ haltTold (pick (accepted n (at i top closed)) Halt.end Halt.budget)
-    unfolding reasonHere accepted
-    spent-told r p = ap (λ (x : ℕ). toldAs x 0 0) p ∙ go (eqb i (n + 1)) (eqb top 0)
-      where
-        go : (a b : Bool) → toldAs (pick a (pick b 1 2) 2) 0 0 ≡ haltTold (pick (a && b) Halt.end Halt.budget)
-        go true true = refl
-        go true false = refl
-        go false b = refl
-
--- ---- a stop reason by its numbers
-
-module _ (reason number entry : ℕ) where
-  pub told-end : reason ≡ 1 → toldAs reason number entry ≡ record { reason = 1; number = 0; entry = 0 }
-  told-end h = simp (eq-eqb _ _ h)
-
-  module _ (h : reason ≡ 1 → ⊥) where
-    pub told-budget : reason ≡ 2 → toldAs reason number entry ≡ record { reason = 2; number = 0; entry = 0 }
-    told-budget q = simp (ne-eqb _ _ h, eq-eqb _ _ q)
-
-    pub told-refused : (reason ≡ 2 → ⊥) → toldAs reason number entry ≡ record { reason = 3; number = number; entry = entry }
-    told-refused q = simp (ne-eqb _ _ h, ne-eqb _ _ q)
-
--- ---- how a turn starts
-
--- reached is what an equal turn reaches
-pub reaches-as : (r : Reached) (t u : Turned CheckState) → t ≡ u → Reaches r u → Reaches r t
-reaches-as r t u q h = rw q h
-
--- the same of what was put together
-pub halted-as : (r q : Reached) (t u : Turned CheckState) → r ≡ q → t ≡ u → Reaches q u → Reaches r t
-halted-as r q t u p e h = rw p (rw e h)
-
-module _ (most l : ℕ) (st : CheckState) where
-  pub start-length : (lengthFault most width l ≡ 0 → ⊥) → startFault most l st ≡ lengthFault most width l
-  unfolding startFault
-  start-length h = simp (ne-eqb _ _ h)
-
-  module _ (fine : lengthFault most width l ≡ 0) where
-    pub start-range : inRange (l / width) st ≡ false → startFault most l st ≡ 9
-    unfolding startFault
-    start-range h = simp (eq-eqb _ _ fine, h)
-
-    pub start-fine : inRange (l / width) st ≡ true → startFault most l st ≡ 0
-    unfolding startFault
-    start-fine h = simp (eq-eqb _ _ fine, h)
-
-  pub start-zero : startFault most l st ≡ 0 → (lengthFault most width l ≡ 0) × (inRange (l / width) st ≡ true)
-  unfolding startFault
-  start-zero = go (eqb (lengthFault most width l) 0) (inRange (l / width) st) refl refl
-    where
-      go : (a b : Bool) → eqb (lengthFault most width l) 0 ≡ a → inRange (l / width) st ≡ b
-          → pick a (pick b 0 9) (lengthFault most width l) ≡ 0 → (lengthFault most width l ≡ 0) × (inRange (l / width) st ≡ true)
-      go true true p q h = (eqb-true _ _ p, q)
-      go true false p q h = absurd (omega arith)
-      go false b p q h = absurd (eqb-false _ _ p h)
-
-module _ (any : Bool) (most : ℕ) (s : List ℕ) (b : ℕ) (st : CheckState) where
-  pub turn-refused : (startFault most (length s) st ≡ 0 → ⊥) → turnWithin any most s b st ≡ refusedAt st (startFault most (length s) st)
-  unfolding turnWithin startFault
-  turn-refused = go (eqb (lengthFault most width (length s)) 0) (inRange (length s / width) st)
-    where
-      go : (a c : Bool) → (pick a (pick c 0 9) (lengthFault most width (length s)) ≡ 0 → ⊥)
-          → pick a (pick c (runOf any (length s / width) (entriesOf width s) b st) (refusedAt st 9)) (refusedAt st (lengthFault most width (length s)))
-          ≡ refusedAt st (pick a (pick c 0 9) (lengthFault most width (length s)))
-      go true true h = absurd (h refl)
-      go true false h = refl
-      go false c h = refl
-
-  pub turn-started : startFault most (length s) st ≡ 0 → turnWithin any most s b st ≡ runOf any (length s / width) (entriesOf width s) b st
-  turn-started h = let z = start-zero most (length s) st h in turn-run any most s b st (z .0) (z .1)
-
--- what the code's test has shown of a turn that starts
-pub record Started (k : Kind) (l : ℕ) (st : CheckState) : Type 0 where
-  pub none : startFault (most k) l st ≡ 0
-  pub even : l % width ≡ 0
-  pub small : l / width ≤ 4096
-  pub within : Ranges (l / width) st
-
-pub start-shown : (k : Kind) (l : ℕ) (st : CheckState) (r : ℕ) → r ≡ startFault (most k) l st → r ≡ 0 → Started k l st
-start-shown k l st r p q =
-    let n : startFault (most k) l st ≡ 0 = sym p ∙ q in
-    let z = start-zero (most k) l st n in
-    let y = length-sized (most k) width l (z .0) in
-    let m = most-small k in
-    record { none = n; even = y .even; small = omega (arith, y .small, m); within = range-inverse _ _ (z .1) }

@@ -6,7 +6,7 @@ use Prim.Native.Nat.{ℕ, zero, suc, _+_, _-_, _*_, _/_, _%_, _≤_, _<_}
 use mathlib.Core.Path.{_≡_, refl, ap, _∙_, sym}
 use mathlib.Core.Logic.{_⊎_, inl, inr}
 use mathlib.Core.List.{List}
-use mathlib.Core.Bool.{Bool, true, false}
+use mathlib.Core.Bool.{Bool, true, false, not, _||_, false≢true}
 use lib.ListN.{length}
 use lib.Dec.{leb, eqb}
 use native.Mathlib.Omega.{arith}
@@ -22,11 +22,8 @@ use Rattle.checking.specs.Rule.{stepOf, accepted, Ranges, inRange, fresh
 use Rattle.checking.specs.Turn.{runOf, spentOf, lengthFault, turnWithin, turnOf, refusedAt}
 use Rattle.checking.specs.Whole.{wholeOf}
 use Rattle.checking.specs.declared.Kind.{Kind}
-use Rattle.checking.specs.declared.Stop.{Stop}
-use Rattle.checking.specs.declared.Verdict.{Verdict}
-use Rattle.checking.specs.declared.Refusal.{Refusal}
 use Rattle.checking.specs.Kinds.{most}
-use Rattle.checking.specs.Stops.{Told, told, haltTold, verdictTold}
+use Rattle.checking.specs.Stops.{haltTold}
 use Rattle.checking.proofs.Cases.{range-yes, fresh-ranges}
 use Rattle.checking.proofs.Inverse.{step-ranges, step-grows, step-silent}
 
@@ -58,16 +55,25 @@ run-spent any n e b k st h = simp h
 
 -- ---- the length
 
+pub length-whole : (w l : ℕ) → (eqb l 0 || not (eqb (l % w) 0)) ≡ false → (l ≡ 0 → ⊥) × (l % w ≡ 0)
+length-whole w l = go (eqb l 0) (eqb (l % w) 0) refl refl
+  where
+    go : (a b : Bool) → eqb l 0 ≡ a → eqb (l % w) 0 ≡ b → (a || not b) ≡ false → (l ≡ 0 → ⊥) × (l % w ≡ 0)
+    go true b p q h = absurd (false≢true (sym h))
+    go false false p q h = absurd (false≢true (sym h))
+    go false true p q h = (eqb-false _ _ p, eqb-true _ _ q)
+
 module _ (most w l : ℕ) where
-  pub length-empty : l ≡ 0 → lengthFault most w l ≡ 1
+  pub length-cut : (eqb l 0 || not (eqb (l % w) 0)) ≡ true → lengthFault most w l ≡ 1
   unfolding lengthFault
-  length-empty h = simp (eq-eqb _ _ h)
+  length-cut = go (eqb l 0) (eqb (l % w) 0)
+    where
+      go : (a b : Bool) → (a || not b) ≡ true → _≡_ {A = ℕ} (pick a 1 (pick b (pick (leb (l / w) most) 0 7) 1)) 1
+      go true b h = refl
+      go false false h = refl
+      go false true h = absurd (false≢true h)
 
   module _ (some : l ≡ 0 → ⊥) where
-    pub length-cut : (l % w ≡ 0 → ⊥) → lengthFault most w l ≡ 1
-    unfolding lengthFault
-    length-cut h = simp (ne-eqb _ _ some, ne-eqb _ _ h)
-
     module _ (even : l % w ≡ 0) where
       pub length-over : most < l / w → lengthFault most w l ≡ 7
       unfolding lengthFault
@@ -143,17 +149,6 @@ whole-stops any most s = go (ℕ-discrete (lengthFault most width (length s)) 0)
         rw (turn-run any most s (2 * most + 1) fresh h (range-yes n fresh (fresh-ranges n)))
         (stops any n (entriesOf width s) (2 * most + 1) _ (omega (arith, z .some, z .even)) (omega (arith, z .small))
         (turn-outcome CheckState (accepted n) (stepOf any n (entriesOf width s)) (2 * most + 1) fresh))
-
--- ---- verdicts
-
--- a stop reason that is no refusal, of the whole check, is the end
-pub stop-accepted : (x : Stop) (h : Halt) → told x ≡ haltTold h → (h ≡ Halt.end) ⊎ ((number : ℕ) × (entry : ℕ) × (h ≡ Halt.refusal number entry))
-    → ((r : Refusal) → x ≡ Stop.Refused r → ⊥) → verdictTold Verdict.Accepted ≡ haltTold h
-stop-accepted x h q (inl e) n = rw e
-stop-accepted Stop.Answer h q (inr e) n = let w = rw (e .2) at q in let z : _≡_ {A = ℕ} 0 3 = ap (λ (t : Told). t .reason) w in absurd (omega arith)
-stop-accepted Stop.End h q (inr e) n = let w = rw (e .2) at q in let z : _≡_ {A = ℕ} 1 3 = ap (λ (t : Told). t .reason) w in absurd (omega arith)
-stop-accepted Stop.Budget h q (inr e) n = let w = rw (e .2) at q in let z : _≡_ {A = ℕ} 2 3 = ap (λ (t : Told). t .reason) w in absurd (omega arith)
-stop-accepted (Stop.Refused r) h q (inr e) n = absurd (n r refl)
 
 -- the whole check, by a budget that is told in another way
 pub whole-told : (k : Kind) (s : List ℕ) (m : ℕ) → m ≡ most k → haltTold (turnOf k s (2 * m + 1) fresh .halt) ≡ wholeOf k s

@@ -8,7 +8,7 @@ ghost use Rattle.checking.specs.Kinds.{anyName, most};
 ghost use Rattle.checking.specs.Stops.{told};
 ghost use Rattle.checking.specs.Rule.{at, inRange, fresh};
 ghost use Rattle.checking.specs.Turn.{lengthFault, turnOf, TurnPromise};
-ghost use Rattle.checking.specs.Whole.{wholeOf, WholePromise};
+ghost use Rattle.checking.specs.Whole.{WholePromise};
 ghost use Rattle.checking.specs.Plain.{toldAs, Reaches, startFault};
 
 mod steps;
@@ -123,10 +123,7 @@ impl Kind {
 fn number_or_zero(sig: &[u16], at: usize) -> u16
     ensures { λ r. ⌜ r ≡ getD (now (sig .entry)) at 0 ⌝ }
 {
-    if at < sig.len() {
-        return sig[at];
-    }
-    0
+    if at < sig.len() { sig[at] } else { 0 }
 }
 
 // Number k of entry i for every caller: 0 past the end of the signature, and rank 0 reads as rank 1, so that every number may be handed in.
@@ -135,9 +132,10 @@ pub fn entry_number(sig: &[u16], i: PreRank, k: u16) -> u16
 {
     let rank = i.0 as usize;
     if rank == 0 {
-        return number_or_zero(sig, k as usize);
+        number_or_zero(sig, k as usize)
+    } else {
+        number_or_zero(sig, 4 * (rank - 1) + (k as usize))
     }
-    number_or_zero(sig, 4 * (rank - 1) + (k as usize))
 }
 
 // Whether a saved state is within its ranges.
@@ -145,33 +143,20 @@ fn is_in_range(n: u16, next: u16, top: u16, closed: u16) -> bool
     requires { ⌜ n ≤ 4096 ⌝ }
     ensures { λ r. ⌜ «r» ≡ inRange n (at next top closed) ⌝ }
 {
-    if next < 1 {
-        return false;
-    }
-    if n + 1 < next {
-        return false;
-    }
-    if next <= top {
-        return false;
-    }
-    if closed < next { true } else { false }
+    (1 <= next) & (next <= n + 1) & (top < next) & (closed < next)
 }
 
 // The refusal of a signature of len numbers by its length alone, or 0.
 pub fn length_fault(kind: Kind, len: usize) -> u16
     ensures { λ r. ⌜ r ≡ lengthFault (most kind) width len ⌝ }
 {
-    if len == 0 {
-        return CUT;
+    if (len == 0) | (len % 4 != 0) {
+        CUT
+    } else if (kind.most() as usize) < len / 4 {
+        TOO_MANY
+    } else {
+        0
     }
-    if len % 4 != 0 {
-        return CUT;
-    }
-    let most = kind.most() as usize;
-    if most < len / 4 {
-        return TOO_MANY;
-    }
-    0
 }
 
 // The number by which a turn is refused before its first step, or 0.
@@ -180,10 +165,8 @@ fn start_fault(kind: Kind, len: usize, next: u16, top: u16, closed: u16) -> u16
 {
     let fault = length_fault(kind, len);
     if fault != 0 {
-        return fault;
-    }
-    let n = (len / 4) as u16;
-    if is_in_range(n, next, top, closed) {
+        fault
+    } else if is_in_range((len / 4) as u16, next, top, closed) {
         0
     } else {
         BAD_STATE
@@ -208,25 +191,14 @@ fn stop_of(reason: u16, number: u16, entry: u16) -> Stop
     ensures { λ r. ⌜ told r ≡ toldAs reason number entry ⌝ }
 {
     if reason == ENDED {
-        return Stop::End;
-    }
-    if reason == SPENT {
-        return Stop::Budget;
-    }
-    Stop::Refused(Refusal {
-        number,
-        entry: PreRank(entry),
-    })
-}
-
-// The state of these three numbers.
-fn state_of(next: u16, top: u16, closed: u16) -> CheckState
-    ensures { λ r. ⌜ r ≡ at next top closed ⌝ }
-{
-    CheckState {
-        next: PreRank(next),
-        top: PreRank(top),
-        closed: PostRank(closed),
+        Stop::End
+    } else if reason == SPENT {
+        Stop::Budget
+    } else {
+        Stop::Refused(Refusal {
+            number,
+            entry: PreRank(entry),
+        })
     }
 }
 
@@ -235,7 +207,11 @@ impl CheckState {
     pub fn fresh() -> Self
         ensures { λ r. ⌜ r ≡ fresh ⌝ }
     {
-        state_of(1, 0, 0)
+        CheckState {
+            next: PreRank(1),
+            top: PreRank(0),
+            closed: PostRank(0),
+        }
     }
 
     // A turn of the check that may spend budget steps.
@@ -244,32 +220,30 @@ impl CheckState {
     {
         let reached = reach(kind, sig, budget, self.next.0, self.top.0, self.closed.0);
         let stop = stop_of(reached.reason, reached.number, reached.entry);
-        let state = state_of(reached.next, reached.top, reached.closed);
         CheckTurn {
-            state,
+            state: CheckState {
+                next: PreRank(reached.next),
+                top: PreRank(reached.top),
+                closed: PostRank(reached.closed),
+            },
             steps: reached.steps,
             stop,
         }
     }
 }
 
-// What stops a check begun fresh. One step more than the largest tree takes is never all spent.
-fn whole_stop(kind: Kind, sig: &[u16]) -> Stop
-    ensures { λ r. ⌜ told r ≡ wholeOf kind (now (sig .entry)) ⌝ }
+// The whole check, begun fresh: what is not refused is accepted. One step more than the largest tree takes is never all spent.
+pub fn check_whole(kind: Kind, sig: &[u16]) -> Verdict
+    ensures { λ r. ⌜ WholePromise kind (now (sig .entry)) r ⌝ }
 {
     let most = kind.most() as u64;
     let budget = 2 * most + 1;
     let reached = reach(kind, sig, budget, 1, 0, 0);
-    stop_of(reached.reason, reached.number, reached.entry)
-}
-
-// The whole check: what is not refused is accepted.
-pub fn check_whole(kind: Kind, sig: &[u16]) -> Verdict
-    ensures { λ r. ⌜ WholePromise kind (now (sig .entry)) r ⌝ }
-{
-    let stop = whole_stop(kind, sig);
-    let Stop::Refused(refusal) = stop else {
+    if reached.reason == ENDED {
         return Verdict::Accepted;
-    };
-    Verdict::Refused(refusal)
+    }
+    Verdict::Refused(Refusal {
+        number: reached.number,
+        entry: PreRank(reached.entry),
+    })
 }

@@ -31,13 +31,13 @@ pub struct Reached {
     pub entry: u16,
 }
 
-// Number k of entry i, where an entry has wide numbers.
-fn number(sig: &[u16], wide: usize, i: u16, k: usize) -> u16
-    requires { ⌜ (1 ≤ i) × (k < wide) × (wide * i ≤ length (now sig)) ⌝ }
-    ensures { λ r. ⌜ r ≡ cell wide (now (sig .entry)) i k ⌝ }
+// Number k of entry i.
+fn number(sig: &[u16], i: u16, k: usize) -> u16
+    requires { ⌜ (1 ≤ i) × (k < width) × (width * i ≤ length (now sig)) ⌝ }
+    ensures { λ r. ⌜ r ≡ cell width (now (sig .entry)) i k ⌝ }
 {
     let at = i as usize;
-    sig[wide * (at - 1) + k]
+    sig[4 * (at - 1) + k]
 }
 
 // Whether entry i has name 0 where that is refused.
@@ -45,24 +45,14 @@ fn is_nameless(sig: &[u16], i: u16, any_name: bool) -> bool
     requires { ⌜ (1 ≤ i) × (width * i ≤ length (now sig)) ⌝ }
     ensures { λ r. ⌜ «r» ≡ nameless «any_name» (entriesOf width (now (sig .entry))) i ⌝ }
 {
-    if any_name {
-        return false;
-    }
-    let name = number(sig, 4, i, 0);
-    if name == 0 { true } else { false }
+    !any_name & (number(sig, i, 0) == 0)
 }
 
 // Whether fa cannot be the parent of entry i: it does not come before i, or i would be a second root.
 fn is_no_parent(i: u16, fa: u16) -> bool
     ensures { λ r. ⌜ «r» ≡ noParent i fa ⌝ }
 {
-    if i <= fa {
-        return true;
-    }
-    if i <= 1 {
-        return false;
-    }
-    if fa == 0 { true } else { false }
+    (i <= fa) | ((1 < i) & (fa == 0))
 }
 
 // Rule 1: the number by which entry i is refused, or 0.
@@ -71,13 +61,14 @@ fn entry_fault(sig: &[u16], n: u16, any_name: bool, i: u16) -> u16
     ensures { λ r. ⌜ r ≡ entryFault «any_name» n (entriesOf width (now (sig .entry))) i ⌝ }
 {
     if n < i {
-        return 0;
+        0
+    } else if is_nameless(sig, i, any_name) {
+        NAMELESS
+    } else if is_no_parent(i, number(sig, i, 3)) {
+        NOT_OPEN
+    } else {
+        0
     }
-    if is_nameless(sig, i, any_name) {
-        return NAMELESS;
-    }
-    let fa = number(sig, 4, i, 3);
-    if is_no_parent(i, fa) { NOT_OPEN } else { 0 }
 }
 
 // Rule 2: 1 if entry i is opened, else 0.
@@ -86,10 +77,12 @@ fn opens(sig: &[u16], n: u16, i: u16, top: u16) -> u16
     ensures { λ r. ⌜ (r ≡ opened n (entriesOf width (now (sig .entry))) i top) × (r ≤ 1) ⌝ }
 {
     if n < i {
-        return 0;
+        0
+    } else if number(sig, i, 3) == top {
+        1
+    } else {
+        0
     }
-    let fa = number(sig, 4, i, 3);
-    if fa == top { 1 } else { 0 }
 }
 
 // Rules 3 and 4: the number by which closing the innermost open element is refused, or 0.
@@ -103,15 +96,15 @@ fn close_fault(sig: &[u16], i: u16, top: u16, closed: u16) -> u16
     if closed == i - 1 {
         return BAD_STATE;
     }
-    let post = number(sig, 4, top, 1);
+    let post = number(sig, top, 1);
     if post != closed + 1 {
         return WRONG_POST;
     }
-    let ff = number(sig, 4, top, 2);
+    let ff = number(sig, top, 2);
     if ff != i {
         return WRONG_FF;
     }
-    let up = number(sig, 4, top, 3);
+    let up = number(sig, top, 3);
     if up < top { 0 } else { NOT_OPEN }
 }
 
@@ -130,12 +123,12 @@ fn step_fault(
 {
     let fault = entry_fault(sig, n, any_name, i);
     if fault != 0 {
-        return fault;
+        fault
+    } else if opening == 1 {
+        0
+    } else {
+        close_fault(sig, i, top, closed)
     }
-    if opening == 1 {
-        return 0;
-    }
-    close_fault(sig, i, top, closed)
 }
 
 // The entry that a refused step names: the next one by rules 1 and 3, none by the 9, else the one that would be closed.
@@ -143,10 +136,7 @@ fn fault_entry(sig: &[u16], n: u16, any_name: bool, i: u16, top: u16, closed: u1
     requires { ⌜ (length (now sig) ≡ width * n) × Ranges n (at i top closed) × (numberOf (stepOf «any_name» n (entriesOf width (now sig)) (at i top closed)) ≡ 0 → ⊥) ⌝ }
     ensures { λ r. ⌜ r ≡ entryOf (stepOf «any_name» n (entriesOf width (now (sig .entry))) (at i top closed)) ⌝ }
 {
-    if entry_fault(sig, n, any_name, i) != 0 {
-        return i;
-    }
-    if top == 0 {
+    if (entry_fault(sig, n, any_name, i) != 0) | (top == 0) {
         return i;
     }
     if closed + 1 == i { 0 } else { top }
@@ -157,10 +147,7 @@ fn top_after(sig: &[u16], opening: u16, i: u16, top: u16) -> u16
     requires { ⌜ (width * top ≤ length (now sig)) × ((opening ≡ 1 → ⊥) → 1 ≤ top) ⌝ }
     ensures { λ r. ⌜ r ≡ topAfter opening i (entriesOf width (now (sig .entry)) .fa top) ⌝ }
 {
-    if opening == 1 {
-        return i;
-    }
-    number(sig, 4, top, 3)
+    if opening == 1 { i } else { number(sig, top, 3) }
 }
 
 // What stops the check here if no step is left to it: the end, where the check has come to it, or the budget.
@@ -168,10 +155,11 @@ fn stop_here(n: u16, i: u16, top: u16) -> u16
     requires { ⌜ n ≤ 4096 ⌝ }
     ensures { λ r. ⌜ r ≡ reasonHere n i top ⌝ }
 {
-    if i != n + 1 {
-        return SPENT;
+    if (i == n + 1) & (top == 0) {
+        ENDED
+    } else {
+        SPENT
     }
-    if top == 0 { ENDED } else { SPENT }
 }
 
 // Where a turn came to, of these numbers.

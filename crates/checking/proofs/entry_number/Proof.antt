@@ -38,9 +38,9 @@ entry-number-spec =
     (tie.spec
     cast-rank
     number-or-zero-requires
-    returns
     sub-number-or-zero
     mul-number-or-zero
     add-number-or-zero
     number-or-zero-requires-2
+    returns
     returns-2)

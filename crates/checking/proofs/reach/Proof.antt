@@ -2,7 +2,7 @@
 use lib.ListN.{length}
 use Rattle.checking.specs.Rule.{at}
 use Rattle.checking.specs.Turn.{refusedAt}
-use Rattle.checking.proofs.Plain.{halted-as, reaches-as, start-shown, turn-refused, turn-started}
+use Rattle.checking.proofs.Stopping.{halted-as, reaches-as, start-shown, turn-refused, turn-started}
 use Rattle.checking.proofs.Runs.{run-any}
 use mathlib.Core.Path.{refl, sym, ap, _∙_}
 use native.Mathlib.Omega.{arith}

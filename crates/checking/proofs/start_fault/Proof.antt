@@ -1,6 +1,6 @@
 -- Each return is one case of a turn's start: refused by its length, by its state, or not. A length that is not refused has few enough entries for
 -- sixteen bits.
-use Rattle.checking.proofs.Plain.{start-length, start-range, start-fine}
+use Rattle.checking.proofs.Stopping.{start-length, start-range, start-fine}
 use Rattle.checking.proofs.Runs.{fault-none, fault-sized, most-small}
 use mathlib.Core.Path.{sym, _∙_}
 use native.Mathlib.Omega.{arith}
@@ -14,8 +14,8 @@ length-fault-requires c κs = search needs
 returns : tie.Need-returns
 returns c = c .before .length-fault .ensures ∙ sym (start-length _ _ _ (omega arith))
 
-cast-n : tie.Need-cast-n
-cast-n c =
+cast-is-in-range : tie.Need-cast-is-in-range
+cast-is-in-range c =
     let a = c .before .before .args in
     let f = c .before .length-fault in
     let z = fault-sized (a .kind) (a .len) (f .result) (f .ensures) (omega arith) in
@@ -43,4 +43,4 @@ returns-3 c =
 pub start-fault-spec : {M : Type 1} → statement M
 start-fault-spec =
     tie.close
-    (tie.spec length-fault-requires returns cast-n is-in-range-requires returns-2 returns-3)
+    (tie.spec length-fault-requires cast-is-in-range is-in-range-requires returns returns-2 returns-3)

@@ -1,5 +1,5 @@
 -- Each return is the stop reason of its number.
-use Rattle.checking.proofs.Plain.{told-end, told-budget, told-refused}
+use Rattle.checking.proofs.Stopping.{told-end, told-budget, told-refused}
 use mathlib.Core.Path.{sym}
 use native.Mathlib.Omega.{arith}
 use Rattle.checking.proofs.stop_of.Statement.{statement}

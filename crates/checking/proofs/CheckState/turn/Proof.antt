@@ -10,13 +10,10 @@ reach-requires c κs = search needs
 stop-of-requires : tie.Need-stop-of-requires
 stop-of-requires c κs = search needs
 
-state-of-requires : tie.Need-state-of-requires
-state-of-requires c κs = search needs
-
 returns : tie.Need-returns
 returns c =
-    let r = c .before .before .reach .ensures in
-    record { state = c .state-of .ensures ∙ r .state; steps = r .steps; stop = c .before .stop-of .ensures ∙ r .stop }
+    let r = c .before .reach .ensures in
+    record { state = r .state; steps = r .steps; stop = c .stop-of .ensures ∙ r .stop }
 
 pub turn-spec : {M : Type 1} → statement M
 turn-spec =
@@ -24,5 +21,4 @@ turn-spec =
     (tie.spec
     reach-requires
     stop-of-requires
-    state-of-requires
     returns)

@@ -35,10 +35,10 @@ pub entry-fault-spec : {M : Type 1} → statement M
 entry-fault-spec =
     tie.close
     (tie.spec
-    returns
     is-nameless-requires
-    returns-2
     number-requires
     is-no-parent-requires
+    returns
+    returns-2
     returns-3
     returns-4)

@@ -1,6 +1,6 @@
 -- A refused step is refused by rule 1, or else by rules 3 and 4; each return is the entry of one of their cases.
-use Rattle.checking.proofs.Cases.{close-none, close-full}
-use Rattle.checking.proofs.Plain.{entry-is, step-entry, step-faulty, step-entry-top}
+use Rattle.checking.proofs.Cases.{close-full}
+use Rattle.checking.proofs.Plain.{entry-is, neither, step-entry-next, step-faulty, step-entry-top}
 use mathlib.Core.Path.{sym, _∙_}
 use native.Mathlib.Omega.{arith}
 use borrow.Author.Needs.{needs}
@@ -11,22 +11,24 @@ entry-fault-requires : tie.Need-entry-fault-requires
 entry-fault-requires c κs = search needs
 
 returns : tie.Need-returns
-returns c = sym (entry-is _ _ _ (step-entry _ _ _ _ _ _ (omega arith)))
+returns c =
+    let f = c .before .entry-fault in
+    sym (step-entry-next _ _ _ _ _ _ (f .result) (f .ensures) (c .if1 .taken) (c .before .before .before .pre .2))
+
+add-if2 : tie.Need-add-if2
+add-if2 c = omega arith
 
 returns-2 : tie.Need-returns-2
 returns-2 c =
-    sym (entry-is _ _ _ (step-faulty _ _ _ _ _ _ (omega arith) (c .before .before .before .before .pre .2) ∙ close-none _ _ (omega arith)))
-
-add-if3 : tie.Need-add-if3
-add-if3 c = search needs
+    let f = c .before .before .entry-fault in
+    let w = neither _ _ (c .before .if1 .left) in
+    sym (entry-is _ _ _ (step-faulty _ _ _ _ _ _ (sym (f .ensures) ∙ w .0) (c .before .before .before .before .pre .2) ∙ close-full _ _ (w .1) (omega arith)))
 
 returns-3 : tie.Need-returns-3
 returns-3 c =
-    sym (entry-is _ _ _ (step-faulty _ _ _ _ _ _ (omega arith) (c .before .before .before .before .before .pre .2) ∙ close-full _ _ (omega arith) (omega arith)))
-
-returns-4 : tie.Need-returns-4
-returns-4 c = sym (step-entry-top _ _ _ _ _ _ (omega arith) (c .before .before .before .before .before .pre .2) (omega arith) (omega arith))
+    let f = c .before .before .entry-fault in
+    let w = neither _ _ (c .before .if1 .left) in
+    sym (step-entry-top _ _ _ _ _ _ (sym (f .ensures) ∙ w .0) (c .before .before .before .before .pre .2) (w .1) (omega arith))
 
 pub fault-entry-spec : {M : Type 1} → statement M
-fault-entry-spec =
-    tie.close (tie.spec entry-fault-requires returns returns-2 add-if3 returns-3 returns-4)
+fault-entry-spec = tie.close (tie.spec entry-fault-requires returns add-if2 returns-2 returns-3)

@@ -19,4 +19,4 @@ returns-3 : tie.Need-returns-3
 returns-3 c = (sym (opened-no _ _ _ _ (omega arith) (omega arith)), omega arith)
 
 pub opens-spec : {M : Type 1} → statement M
-opens-spec = tie.close (tie.spec returns number-requires returns-2 returns-3)
+opens-spec = tie.close (tie.spec number-requires returns returns-2 returns-3)

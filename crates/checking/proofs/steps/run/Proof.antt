@@ -7,9 +7,10 @@ use Rattle.checking.specs.declared.CheckState.{CheckState}
 use Rattle.checking.specs.Rule.{Ranges, at, stepOf, accepted}
 use Rattle.checking.proofs.Runs.{run-spent}
 use Rattle.checking.proofs.Inverse.{step-ranges}
-use Rattle.checking.proofs.Plain.{halted-as, number-none, number-refused, reason-end, reason-on, spent-told, step-taken, step-top}
+use Rattle.checking.proofs.Plain.{number-none, number-refused, step-taken, step-top}
+use Rattle.checking.proofs.Stopping.{halted-as, reason-end, reason-on, spent-told}
 use native.Mathlib.Nat.{sub-zero}
-use mathlib.Core.Path.{_≡_, refl, _∙_}
+use mathlib.Core.Path.{_≡_, refl, sym, _∙_}
 use Prim.Native.Nat.{_≤_, _-_}
 use native.Mathlib.Omega.{arith}
 use borrow.Author.Needs.{needs}
@@ -29,24 +30,26 @@ loop-holds : tie.Need-loop-holds Inv-loop μ-loop
 loop-holds c = (omega arith, c .before .pre .2, rw sub-zero)
 
 stop-here-requires : tie.Need-stop-here-requires Inv-loop μ-loop
-stop-here-requires c κs = omega arith
+stop-here-requires c κs = c .before .before .before .pre .1
 
 halted-requires : tie.Need-halted-requires Inv-loop μ-loop
 halted-requires c κs = search needs
 
 returns : tie.Need-returns Inv-loop μ-loop
 returns c =
-    halted-as _ _ _ _ (c .halted .ensures) (c .before .before .before .before .loop .inv .2 ∙ run-end _ _ _ _ _ _ (reason-end _ _ _ _ (omega arith)))
+    halted-as _ _ _ _ (c .halted .ensures)
+    (c .before .before .before .before .loop .inv .2 ∙ run-end _ _ _ _ _ _ (reason-end _ _ _ _ (sym (c .before .before .stop-here .ensures) ∙ c .before .if1 .taken)))
     (record { state = refl; steps = refl; stop = refl })
 
 opens-requires : tie.Need-opens-requires Inv-loop μ-loop
-opens-requires c κs = search needs
+opens-requires c κs = (c .before .before .before .loop .inv .1 .some, c .before .before .before .before .before .pre .0)
 
 step-fault-requires : tie.Need-step-fault-requires Inv-loop μ-loop
-step-fault-requires c κs = (omega arith, c .before .before .before .before .loop .inv .1, c .opens .ensures .0)
+step-fault-requires c κs = (c .before .before .before .before .before .before .pre .0, c .before .before .before .before .loop .inv .1, c .opens .ensures .0)
 
 fault-entry-requires : tie.Need-fault-entry-requires Inv-loop μ-loop
-fault-entry-requires c κs = (omega arith, c .before .before .before .before .before .before .loop .inv .1, λ w. c .if2 .taken (c .before .step-fault .ensures ∙ w))
+fault-entry-requires c κs =
+    (c .before .before .before .before .before .before .before .before .pre .0, c .before .before .before .before .before .before .loop .inv .1, λ w. c .if2 .taken (c .before .step-fault .ensures ∙ w))
 
 halted-requires-2 : tie.Need-halted-requires-2 Inv-loop μ-loop
 halted-requires-2 c κs = search needs
@@ -55,13 +58,13 @@ returns-2 : tie.Need-returns-2 Inv-loop μ-loop
 returns-2 c =
     halted-as _ _ _ _ (c .halted2 .ensures)
     (c .before .before .before .before .before .before .before .before .loop .inv .2
-    ∙ run-refused _ _ _ _ _ (reason-on _ _ _ _ (omega arith)) _ _ _ (omega arith)
+    ∙ run-refused _ _ _ _ _ (reason-on _ _ _ _ (λ w. c .before .before .before .before .before .if1 .left (c .before .before .before .before .before .before .stop-here .ensures ∙ w))) _ _ _ (omega arith)
     (number-refused _ _ _ (c .before .before .before .step-fault .ensures) (c .before .fault-entry .ensures) (c .before .before .if2 .taken)))
     (record { state = refl; steps = refl; stop = refl })
 
 top-after-requires : tie.Need-top-after-requires Inv-loop μ-loop
 top-after-requires c κs =
-    (omega arith, λ h. step-top _ _ _ _ _ _ (number-none _ _ (c .before .step-fault .ensures) (omega arith)) (λ w. h (c .before .before .opens .ensures .0 ∙ w)))
+    (omega arith, λ h. step-top _ _ _ _ _ _ (number-none _ _ (c .before .step-fault .ensures) (c .if2 .left)) (λ w. h (c .before .before .opens .ensures .0 ∙ w)))
 
 add-i : tie.Need-add-i Inv-loop μ-loop
 add-i c = omega arith
@@ -81,11 +84,11 @@ loop-less c = omega arith
 loop-again : tie.Need-loop-again Inv-loop μ-loop
 loop-again c =
     let l = c .before .before .before .before .before .before .before .loop in
-    let q = step-taken _ _ _ _ _ _ _ _ (c .before .before .before .opens .ensures .0) (c .top-after .ensures) (number-none _ _ (c .before .before .step-fault .ensures) (omega arith)) in
-    (omega arith, step-ranges _ _ _ _ _ (l .inv .1) q, l .inv .2 ∙ run-counted _ _ _ _ _ (reason-on _ _ _ _ (omega arith)) _ _ (omega arith) q)
+    let q = step-taken _ _ _ _ _ _ _ _ (c .before .before .before .opens .ensures .0) (c .top-after .ensures) (number-none _ _ (c .before .before .step-fault .ensures) (c .before .if2 .left)) in
+    (omega arith, step-ranges _ _ _ _ _ (l .inv .1) q, l .inv .2 ∙ run-counted _ _ _ _ _ (reason-on _ _ _ _ (λ w. c .before .before .before .before .if1 .left (c .before .before .before .before .before .stop-here .ensures ∙ w))) _ _ (omega arith) q)
 
 stop-here-requires-2 : tie.Need-stop-here-requires-2 Inv-loop μ-loop
-stop-here-requires-2 c κs = omega arith
+stop-here-requires-2 c κs = c .before .before .before .pre .1
 
 halted-requires-3 : tie.Need-halted-requires-3 Inv-loop μ-loop
 halted-requires-3 c κs = search needs

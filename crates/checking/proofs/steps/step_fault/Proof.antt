@@ -24,4 +24,4 @@ returns-3 c = c .close-fault .ensures ∙ sym (ap numberOf (step-closes _ _ _ _ 
 
 pub step-fault-spec : {M : Type 1} → statement M
 step-fault-spec =
-    tie.close (tie.spec entry-fault-requires returns returns-2 close-fault-requires returns-3)
+    tie.close (tie.spec entry-fault-requires close-fault-requires returns returns-2 returns-3)

@@ -15,4 +15,4 @@ returns-2 : tie.Need-returns-2
 returns-2 c = c .number .ensures ∙ sym (top-closed _ _ _ (c .before .if1 .left))
 
 pub top-after-spec : {M : Type 1} → statement M
-top-after-spec = tie.close (tie.spec returns number-requires returns-2)
+top-after-spec = tie.close (tie.spec number-requires returns returns-2)

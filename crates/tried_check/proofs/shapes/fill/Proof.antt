@@ -3,8 +3,8 @@ use Prim.Native.Nat.{_-_, _≤_}
 use mathlib.Core.Path.{_≡_}
 use lib.ListN.{length}
 use borrow.Author.Needs.{needs}
-use Rattle.tried_check.proofs.fill.Statement.{statement}
-use Rattle.tried_check.proofs.fill.Tie as tie
+use Rattle.tried_check.proofs.shapes.fill.Statement.{statement}
+use Rattle.tried_check.proofs.shapes.fill.Tie as tie
 
 abbrev Inv-loop : tie.InvT-loop
 Inv-loop sig₀ shape n i₀ sig i = (length sig ≡ length sig₀) × (i ≤ n)
