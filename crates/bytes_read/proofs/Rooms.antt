@@ -11,7 +11,7 @@ use lib.Seq.{sets, sets-eq, length-sets}
 use borrow.Author.Tests.{eq-eqb, ne-eqb, le-leb, lt-leb}
 use Rattle.checking.specs.Stops.{Answered, answered, worked, refusedAs}
 use Rattle.checking.specs.declared.Written.{Written}
-use Rattle.bytes_read.specs.Room.{Left, leftBy, frontWith, RoomPromise}
+use Rattle.checking.specs.Room.{Left, leftBy, roomFor, frontWith, RoomPromise}
 
 pub front-sets : (result room : List ℕ) → length result ≤ length room → sets room 0 result ≡ frontWith result room
 front-sets result room h =
@@ -23,17 +23,17 @@ refusedBy number entry = Written.Refused (record { number = number; entry = reco
 
 module _ (number entry : ℕ) (result room : List ℕ) where
   pub refused-is : (number ≡ 0 → ⊥) → leftBy number entry result room ≡ record { answer = refusedAs number entry; room = room }
-  unfolding leftBy
+  unfolding leftBy roomFor
   refused-is h = simp (ne-eqb _ _ h)
 
   pub short-is : number ≡ 0 → length room < length result
       → leftBy number entry result room ≡ record { answer = refusedAs 10 0; room = room }
-  unfolding leftBy
+  unfolding leftBy roomFor
   short-is h l = simp (eq-eqb _ _ h, lt-leb _ _ l)
 
   pub written-is : number ≡ 0 → length result ≤ length room
       → leftBy number entry result room ≡ record { answer = worked (length result); room = frontWith result room }
-  unfolding leftBy
+  unfolding leftBy roomFor
   written-is h l = simp (eq-eqb _ _ h, le-leb _ _ l)
 
   promised : (a : Answered) (w : Written) (after : List ℕ) → leftBy number entry result room ≡ record { answer = a; room = after }

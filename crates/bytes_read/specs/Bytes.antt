@@ -12,9 +12,11 @@ use lib.Dec.{eqb}
 abbrev pub numberAt : List ℕ → ℕ → ℕ
 numberAt b p = getD b p 0 + 256 * getD b (p + 1) 0
 
+-- the low byte of a number, which stands first
 abbrev pub low : ℕ → ℕ
 low v = v % 256
 
+-- the high byte of a number, which stands second
 abbrev pub high : ℕ → ℕ
 high v = v / 256
 

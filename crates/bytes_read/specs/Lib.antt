@@ -1,4 +1,3 @@
 -- Bytes read: what the calls on records and tag lists share.
 pub mod Bytes
 pub mod Scans
-pub mod Room

@@ -7,7 +7,7 @@ ghost use lib.ListN.{length, getD};
 ghost use lib.Seq.{sets};
 ghost use Rattle.trees.specs.Signature.{width};
 ghost use Rattle.bytes_read.specs.Scans.{haltNumber};
-ghost use Rattle.bytes_read.specs.Room.{frontWith};
+ghost use Rattle.checking.specs.Room.{frontWith};
 ghost use Rattle.records.specs.Records.{recordAt, recordFault, recordsEnd, recordsScan, numbersFrom, entryBytes, bytesFrom, namelessFrom, writeFault, ReadPromise, WritePromise};
 use checking::Kind;
 use checking::Written;

@@ -18,7 +18,7 @@ use Rattle.checking.specs.declared.Kind.{Kind}
 use Rattle.checking.specs.declared.Refusal.{Refusal}
 use Rattle.checking.specs.declared.Written.{Written}
 use Rattle.bytes_read.specs.Scans.{haltNumber}
-use Rattle.bytes_read.specs.Room.{Left, leftBy}
+use Rattle.checking.specs.Room.{Left, leftBy}
 use Rattle.bytes_read.proofs.Rooms.{short-is, written-is}
 use Rattle.records.specs.Records.{recordsScan, numbersFrom, bytesFrom, writeFault, ReadPromise, WritePromise}
 use Rattle.tag_lists.specs.declared.TreeRead.{TreeRead}

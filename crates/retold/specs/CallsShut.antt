@@ -19,11 +19,11 @@ use Rattle.checking.specs.declared.Refusal.{Refusal}
 use Rattle.checking.specs.declared.Written.{Written}
 use Rattle.bytes_read.specs.Bytes.{marked}
 use Rattle.bytes_read.specs.Scans.{stepBy, haltNumber}
-use Rattle.bytes_read.specs.Room.{Left, leftBy, LeftPromise}
-use Rattle.records.specs.Records.{recordFault, recordsEnd, recordsScan, numbersFrom, bytesFrom, namelessFrom, writeFault, ReadPromise, WritePromise}
+use Rattle.checking.specs.Room.{Left, leftBy, roomFor, Leaves}
+use Rattle.records.specs.Records.{recordFault, recordsEnd, recordsScan, numbersFrom, bytesFrom, namelessFrom, writeFault, readLeft, writeLeft, ReadPromise, WritePromise}
 use Rattle.tag_lists.specs.declared.TreeRead.{TreeRead}
 use Rattle.tag_scan.specs.TagLists.{tagBytes, closedWith, namelessAt, misnested, tagFault, tagNext, treeEnd, treeScan, tagsFrom, numbersIn}
-use Rattle.tag_lists.specs.Readers.{readTold, TagsPromise, TreePromise}
+use Rattle.tag_lists.specs.Readers.{readTold, tagsLeft, TagsPromise, TreePromise}
 use Rattle.tag_writing.specs.TagsBack.{rowFrom, backLeft, BackPromise}
 
 -- the starred entry 7,1,2,0 as numbers, as a record and as a tag list; nothing; and a room
@@ -45,33 +45,33 @@ zeros = 0 ∷ 0 ∷ 0 ∷ 0 ∷ 0 ∷ 0 ∷ 0 ∷ 0 ∷ 0 ∷ 0 ∷ []
 -- ---- an answer of a call that writes into lent room
 
 module _ (x : Left) (after : List ℕ) where
-  not-refused : x .answer .refused ≡ 0 → (r : Refusal) → LeftPromise x (Written.Refused r) after → ⊥
+  not-refused : x .answer .refused ≡ 0 → (r : Refusal) → Leaves x (Written.Refused r) after → ⊥
   not-refused h r p = let z : _≡_ {A = ℕ} 1 0 = ap (λ (a : Answered). a .refused) (p .told) ∙ h in omega arith
 
-  not-worked : x .answer .refused ≡ 1 → (l : ℕ) → LeftPromise x (Written.Length l) after → ⊥
+  not-worked : x .answer .refused ≡ 1 → (l : ℕ) → Leaves x (Written.Length l) after → ⊥
   not-worked h l p = let z : _≡_ {A = ℕ} 0 1 = ap (λ (a : Answered). a .refused) (p .told) ∙ h in omega arith
 
 -- one answer for a case that works and for one that is refused
-fixed-not : (x y : Left) (u v : List ℕ) (w : Written) → x .answer .refused ≡ 0 → y .answer .refused ≡ 1 → LeftPromise x w u → LeftPromise y w v → ⊥
+fixed-not : (x y : Left) (u v : List ℕ) (w : Written) → x .answer .refused ≡ 0 → y .answer .refused ≡ 1 → Leaves x w u → Leaves y w v → ⊥
 fixed-not x y u v (Written.Refused r) h g p q = not-refused x u h r p
 fixed-not x y u v (Written.Length l) h g p q = not-worked y v g l q
 
 -- the room's first number was 0 and must be another
-idle-not : (x : Left) (w : Written) (n : ℕ) → getD (x .room) 0 0 ≡ n → (n ≡ 0 → ⊥) → LeftPromise x w zeros → ⊥
+idle-not : (x : Left) (w : Written) (n : ℕ) → getD (x .room) 0 0 ≡ n → (n ≡ 0 → ⊥) → Leaves x w zeros → ⊥
 idle-not x w n h g p = g (sym h ∙ ap (λ (l : List ℕ). getD l 0 0) (sym (p .left)))
 
 -- ---- signature records, read
 
-read-entry : leftBy (haltNumber (recordsScan record-of .halt)) 0 (numbersFrom record-of 0 (recordsScan record-of .state .count)) zeros .answer .refused ≡ 0
-unfolding run stepBy marked recordFault recordsEnd numbersFrom leftBy
+read-entry : readLeft record-of zeros .answer .refused ≡ 0
+unfolding run stepBy marked recordFault recordsEnd numbersFrom leftBy roomFor
 read-entry = refl
 
-read-nothing : leftBy (haltNumber (recordsScan none .halt)) 0 (numbersFrom none 0 (recordsScan none .state .count)) zeros .answer .refused ≡ 1
-unfolding run stepBy marked recordFault recordsEnd numbersFrom leftBy
+read-nothing : readLeft none zeros .answer .refused ≡ 1
+unfolding run stepBy marked recordFault recordsEnd numbersFrom leftBy roomFor
 read-nothing = refl
 
-read-first : getD (leftBy (haltNumber (recordsScan record-of .halt)) 0 (numbersFrom record-of 0 (recordsScan record-of .state .count)) zeros .room) 0 0 ≡ 7
-unfolding run stepBy marked recordFault recordsEnd numbersFrom leftBy
+read-first : getD (readLeft record-of zeros .room) 0 0 ≡ 7
+unfolding run stepBy marked recordFault recordsEnd numbersFrom leftBy roomFor
 read-first = refl
 
 pub read-shut-refusing : (r : List ℕ → List ℕ → Refusal) (after : List ℕ → List ℕ → List ℕ)
@@ -86,16 +86,16 @@ read-shut-idle call p = idle-not _ _ 7 read-first (λ z. omega arith) (p record-
 
 -- ---- signature records, written
 
-write-entry : leftBy (writeFault entry) 0 (bytesFrom entry 0 (length entry / 4)) zeros .answer .refused ≡ 0
-unfolding lengthFault bytesFrom namelessFrom writeFault leftBy
+write-entry : writeLeft entry zeros .answer .refused ≡ 0
+unfolding lengthFault bytesFrom namelessFrom writeFault leftBy roomFor
 write-entry = refl
 
-write-nothing : leftBy (writeFault none) 0 (bytesFrom none 0 (length none / 4)) zeros .answer .refused ≡ 1
-unfolding lengthFault bytesFrom namelessFrom writeFault leftBy
+write-nothing : writeLeft none zeros .answer .refused ≡ 1
+unfolding lengthFault bytesFrom namelessFrom writeFault leftBy roomFor
 write-nothing = refl
 
-write-first : getD (leftBy (writeFault entry) 0 (bytesFrom entry 0 (length entry / 4)) zeros .room) 0 0 ≡ 83
-unfolding lengthFault bytesFrom namelessFrom writeFault leftBy
+write-first : getD (writeLeft entry zeros .room) 0 0 ≡ 83
+unfolding lengthFault bytesFrom namelessFrom writeFault leftBy roomFor
 write-first = refl
 
 pub write-shut-refusing : (r : List ℕ → List ℕ → Refusal) (after : List ℕ → List ℕ → List ℕ)
@@ -110,16 +110,16 @@ write-shut-idle call p = idle-not _ _ 83 write-first (λ z. omega arith) (p entr
 
 -- ---- a whole tag list, read
 
-tags-entry : leftBy (haltNumber (treeScan true false 4096 tags-of 0 .halt)) 0 (numbersIn tags-of 0 (treeScan true false 4096 tags-of 0 .state .count)) zeros .answer .refused ≡ 0
-unfolding run stepBy marked closedWith namelessAt misnested tagFault tagNext treeEnd tagsFrom opened closed rowsOf oneTree treeOf leftBy
+tags-entry : tagsLeft Kind.Data tags-of zeros .answer .refused ≡ 0
+unfolding run stepBy marked closedWith namelessAt misnested tagFault tagNext treeEnd tagsFrom opened closed rowsOf oneTree treeOf leftBy roomFor
 tags-entry = refl
 
-tags-nothing : leftBy (haltNumber (treeScan true false 4096 none 0 .halt)) 0 (numbersIn none 0 (treeScan true false 4096 none 0 .state .count)) zeros .answer .refused ≡ 1
-unfolding run stepBy marked closedWith namelessAt misnested tagFault tagNext treeEnd tagsFrom opened closed rowsOf oneTree treeOf leftBy
+tags-nothing : tagsLeft Kind.Data none zeros .answer .refused ≡ 1
+unfolding run stepBy marked closedWith namelessAt misnested tagFault tagNext treeEnd tagsFrom opened closed rowsOf oneTree treeOf leftBy roomFor
 tags-nothing = refl
 
-tags-first : getD (leftBy (haltNumber (treeScan true false 4096 tags-of 0 .halt)) 0 (numbersIn tags-of 0 (treeScan true false 4096 tags-of 0 .state .count)) zeros .room) 0 0 ≡ 7
-unfolding run stepBy marked closedWith namelessAt misnested tagFault tagNext treeEnd tagsFrom opened closed rowsOf oneTree treeOf leftBy
+tags-first : getD (tagsLeft Kind.Data tags-of zeros .room) 0 0 ≡ 7
+unfolding run stepBy marked closedWith namelessAt misnested tagFault tagNext treeEnd tagsFrom opened closed rowsOf oneTree treeOf leftBy roomFor
 tags-first = refl
 
 pub tags-shut-refusing : (r : List ℕ → List ℕ → Refusal) (after : List ℕ → List ℕ → List ℕ)
@@ -135,15 +135,15 @@ tags-shut-idle call p = idle-not _ _ 7 tags-first (λ z. omega arith) (p tags-of
 -- ---- a signature, written as a tag list
 
 back-entry : backLeft Kind.Data entry zeros .answer .refused ≡ 0
-unfolding run turnWithin lengthFault inRange stepOf closeOf nameless secondRoot accepted cell tagsOf tagBytes rowFrom backLeft leftBy
+unfolding run turnWithin lengthFault inRange stepOf closeOf nameless secondRoot accepted cell tagsOf tagBytes rowFrom backLeft leftBy roomFor
 back-entry = refl
 
 back-nothing : backLeft Kind.Data none zeros .answer .refused ≡ 1
-unfolding run turnWithin lengthFault inRange stepOf closeOf nameless secondRoot accepted cell tagsOf tagBytes rowFrom backLeft leftBy
+unfolding run turnWithin lengthFault inRange stepOf closeOf nameless secondRoot accepted cell tagsOf tagBytes rowFrom backLeft leftBy roomFor
 back-nothing = refl
 
 back-first : getD (backLeft Kind.Data entry zeros .room) 0 0 ≡ 79
-unfolding run turnWithin lengthFault inRange stepOf closeOf nameless secondRoot accepted cell tagsOf tagBytes rowFrom backLeft leftBy
+unfolding run turnWithin lengthFault inRange stepOf closeOf nameless secondRoot accepted cell tagsOf tagBytes rowFrom backLeft leftBy roomFor
 back-first = refl
 
 pub back-shut-refusing : (r : List ℕ → List ℕ → Refusal) (after : List ℕ → List ℕ → List ℕ)
@@ -159,15 +159,15 @@ back-shut-idle call p = idle-not _ _ 79 back-first (λ z. omega arith) (p entry 
 -- ---- one tree, read from a place on
 
 tree-entry : leftBy (haltNumber (treeScan false false 4096 tags-of 0 .halt)) 0 (numbersIn tags-of 0 (treeScan false false 4096 tags-of 0 .state .count)) zeros .answer .refused ≡ 0
-unfolding run stepBy marked closedWith namelessAt misnested tagFault tagNext treeEnd tagsFrom opened closed rowsOf oneTree treeOf leftBy
+unfolding run stepBy marked closedWith namelessAt misnested tagFault tagNext treeEnd tagsFrom opened closed rowsOf oneTree treeOf leftBy roomFor
 tree-entry = refl
 
 tree-nothing : leftBy (haltNumber (treeScan false false 4096 none 0 .halt)) 0 (numbersIn none 0 (treeScan false false 4096 none 0 .state .count)) zeros .answer .refused ≡ 1
-unfolding run stepBy marked closedWith namelessAt misnested tagFault tagNext treeEnd tagsFrom opened closed rowsOf oneTree treeOf leftBy
+unfolding run stepBy marked closedWith namelessAt misnested tagFault tagNext treeEnd tagsFrom opened closed rowsOf oneTree treeOf leftBy roomFor
 tree-nothing = refl
 
 tree-first : getD (leftBy (haltNumber (treeScan false false 4096 tags-of 0 .halt)) 0 (numbersIn tags-of 0 (treeScan false false 4096 tags-of 0 .state .count)) zeros .room) 0 0 ≡ 7
-unfolding run stepBy marked closedWith namelessAt misnested tagFault tagNext treeEnd tagsFrom opened closed rowsOf oneTree treeOf leftBy
+unfolding run stepBy marked closedWith namelessAt misnested tagFault tagNext treeEnd tagsFrom opened closed rowsOf oneTree treeOf leftBy roomFor
 tree-first = refl
 
 pub tree-shut-refusing : (r : List ℕ → List ℕ → Refusal) (after : List ℕ → List ℕ → List ℕ)

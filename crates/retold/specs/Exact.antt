@@ -17,7 +17,7 @@ use Rattle.checking.specs.Stops.{Answered, answered}
 use Rattle.checking.specs.declared.Kind.{Kind}
 use Rattle.checking.specs.declared.Written.{Written}
 use Rattle.bytes_read.specs.Scans.{haltNumber}
-use Rattle.bytes_read.specs.Room.{Left, leftBy, frontWith}
+use Rattle.checking.specs.Room.{Left, leftBy, frontWith}
 use Rattle.tag_scan.specs.TagLists.{tagBytes, treeScan, numbersIn}
 use Rattle.tag_lists.specs.Readers.{TagsPromise}
 use Rattle.retold.specs.Rooms.{Case, refused, short, written, which, fits-written, ten-given}
@@ -31,6 +31,7 @@ abbrev pub Fine : Written → Type 0
 Fine w = ((l : ℕ) × (w ≡ Written.Length l)) ⊎ (w ≡ Written.Refused (record { number = 10; entry = record { 0 = 0 } }))
 
 module _ (k : Kind) (b : List ℕ) where
+  -- the number that the bytes are refused with before the room is judged, or 0
   abbrev pub number : ℕ
   number = haltNumber (treeScan true (anyName k) (most k) b 0 .halt)
 

@@ -17,6 +17,7 @@ TagNames any [] = Unit {0}
 TagNames any (opens a ∷ l) = Allowed any a × TagNames any l
 TagNames any (closes ∷ l) = TagNames any l
 
+-- how many elements a list of tags opens
 abbrev pub opensIn : List Tag → ℕ
 opensIn [] = 0
 opensIn (opens a ∷ l) = suc (opensIn l)

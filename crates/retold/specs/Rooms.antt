@@ -14,13 +14,13 @@ use Rattle.checking.specs.declared.Refusal.{Refusal}
 use Rattle.checking.specs.declared.Written.{Written}
 use Rattle.checked.specs.Apart.{answered-apart}
 use Rattle.tag_lists.specs.declared.TreeRead.{TreeRead}
-use Rattle.bytes_read.specs.Room.{Left, leftBy, frontWith, LeftPromise, RoomPromise}
+use Rattle.checking.specs.Room.{Left, leftBy, frontWith, Leaves, RoomPromise}
 use Rattle.tag_lists.specs.Readers.{ReadTold, readTold, ReadLeft}
 use Rattle.bytes_read.proofs.Rooms.{refused-is, short-is, written-is}
 
 -- ---- one result
 
-pub one-result : (x : Left) (w v : Written) (a b : List ℕ) → LeftPromise x w a → LeftPromise x v b → (w ≡ v) × (a ≡ b)
+pub one-result : (x : Left) (w v : Written) (a b : List ℕ) → Leaves x w a → Leaves x v b → (w ≡ v) × (a ≡ b)
 one-result x w v a b p q = (answered-apart w v (p .told ∙ sym (q .told)), p .left ∙ sym (q .left))
 
 -- the numbers of a reading tell it apart

@@ -25,7 +25,7 @@ use Rattle.checking.specs.declared.Written.{Written}
 use Rattle.checking.proofs.Runs.{length-sized, length-fine}
 use Rattle.checked.specs.Yields.{Words}
 use Rattle.checked.specs.Wholly.{whole-exactly}
-use Rattle.bytes_read.specs.Room.{Left, frontWith}
+use Rattle.checking.specs.Room.{Left, frontWith}
 use Rattle.records.specs.Records.{recordsScan, numbersFrom, bytesFrom, namelessFrom, writeFault, ReadPromise, WritePromise}
 use Rattle.records.proofs.Faults.{write-fine}
 use Rattle.records.proofs.Filling.{numbers-length}

@@ -17,7 +17,7 @@ use Rattle.checking.specs.declared.Refusal.{Refusal}
 use Rattle.checking.specs.declared.Written.{Written}
 use Rattle.checking.specs.Kinds.{anyName, most}
 use Rattle.checked.specs.Apart.{answered-apart}
-use Rattle.bytes_read.specs.Room.{Left, frontWith}
+use Rattle.checking.specs.Room.{Left, frontWith}
 use Rattle.tag_scan.specs.TagLists.{tagBytes, treeScan, numbersIn}
 use Rattle.tag_lists.specs.Readers.{TagsPromise}
 use Rattle.tag_writing.proofs.Emit.{tag-bytes-length}

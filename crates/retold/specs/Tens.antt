@@ -14,7 +14,7 @@ use Rattle.turns.specs.Pick.{pick}
 use Rattle.turns.specs.Turn as Turns
 use Rattle.turns.specs.Turn.{Next, Halt, Turned, turn}
 use Rattle.turns.specs.Laws.{stops-before-the-fault}
-use Rattle.trees.specs.Signature.{Entries, entriesOf, width}
+use Rattle.trees.specs.Signature.{Entries, entriesOf, width, entries}
 use Rattle.checking.specs.Kinds.{anyName, most}
 use Rattle.checking.specs.Rule.{fresh, stepOf, closeOf, closedOf, openOf, accepted, nameless, secondRoot}
 use Rattle.checking.specs.Stops.{Answered, answered, haltTold}
@@ -23,13 +23,12 @@ use Rattle.checking.specs.Whole.{wholeOf}
 use Rattle.checking.specs.declared.CheckState.{CheckState}
 use Rattle.checking.proofs.Cases.{fresh-ranges}
 use Rattle.checking.proofs.Runs.{turn-length}
-use Rattle.checked.specs.Yields.{entries}
 use Rattle.checked.specs.Chained.{turn-is}
 use Rattle.checking.specs.declared.Kind.{Kind}
 use Rattle.checking.specs.declared.Written.{Written}
 use Rattle.bytes_read.specs.Bytes.{numberAt, marked}
 use Rattle.bytes_read.specs.Scans.{Scan, begin, firstFault, haltNumber}
-use Rattle.bytes_read.specs.Room.{Left, leftBy}
+use Rattle.checking.specs.Room.{Left, leftBy}
 use Rattle.bytes_read.proofs.Rooms.{short-is}
 use Rattle.bytes_read.proofs.Scanning.{Ended, Faulty, scan-comes}
 use Rattle.records.specs.Records.{recordFault, recordNext, recordsEnd, recordsScan, numbersFrom, bytesFrom, namelessFrom, writeFault, ReadPromise, WritePromise}
@@ -42,6 +41,7 @@ use Rattle.retold.specs.Rooms.{Case, refused, short, written, which}
 use Rattle.retold.specs.Ends.{never-ten}
 use Rattle.retold.specs.RecordsThere.{record-passes}
 
+-- "10 is given exactly if the result is longer than the room", and nothing before room is refused
 pub record TenExactly (ten before : ℕ) (result room : List ℕ) : Type 0 where
   pub given : before ≡ 0 → length room < length result → ten ≡ 10
   pub only : ten ≡ 10 → (before ≡ 0) × (length room < length result)

@@ -19,7 +19,7 @@ use Rattle.checking.specs.Kinds.{anyName, most}
 use Rattle.checking.specs.Stops.{Answered}
 use Rattle.checking.specs.declared.Kind.{Kind}
 use Rattle.bytes_read.specs.Scans.{haltNumber}
-use Rattle.bytes_read.specs.Room.{Left, leftBy, frontWith}
+use Rattle.checking.specs.Room.{Left, leftBy, frontWith}
 use Rattle.bytes_read.proofs.Rooms.{short-is, written-is}
 use Rattle.tag_lists.specs.declared.TreeRead.{TreeRead}
 use Rattle.tag_scan.specs.TagLists.{tagBytes, treeScan, numbersIn}
@@ -94,6 +94,7 @@ module _ (k : Kind) (b : List ℕ) (p : ℕ) where
   tree-rest y = ap (λ (x : ℕ). drop x b) (sym (scanned y .at-is)) ∙ scanned y .rest-is
 
   module _ (room : List ℕ) (r : TreeRead) (after : List ℕ) (g : TreePromise k b p room r after) where
+    -- a tree is taken from place p on exactly if the tag list of a tree of the kind stands there
     pub record TreeExactly : Type 0 where
       pub sound : FineRead r → Fronted k b p
       pub complete : Fronted k b p → FineRead r

@@ -21,7 +21,7 @@ use Rattle.checking.specs.Stops.{Answered, answered, worked, refusedAs}
 use Rattle.checking.specs.declared.Kind.{Kind}
 use Rattle.checking.specs.declared.Written.{Written}
 use Rattle.bytes_read.specs.Scans.{Scan, haltNumber}
-use Rattle.bytes_read.specs.Room.{Left, leftBy, frontWith}
+use Rattle.checking.specs.Room.{Left, leftBy, frontWith}
 use Rattle.bytes_read.proofs.Scanning.{passed-grow}
 use Rattle.bytes_read.proofs.Rooms.{refusedBy, refused-is, short-is, written-is}
 use Rattle.tag_scan.specs.TagLists.{tagFault, tagNext, treeEnd, treeScan, tagsFrom, numbersIn}

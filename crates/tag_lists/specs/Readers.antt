@@ -1,5 +1,5 @@
 -- What the readers of tag lists promise: which tree stands in the bytes is said by `tag_scan/specs/TagLists`.
---   TagsPromise            one whole tag list
+--   tagsLeft, TagsPromise  one whole tag list
 --   TreePromise            one tree from a place on
 --   ReadTold, readTold     what reading a tree answers, in numbers
 --   FilledPromise          the pass that both readers call
@@ -15,21 +15,25 @@ use Rattle.checking.specs.Stops.{Answered, worked, refusedAs}
 use Rattle.checking.specs.declared.Kind.{Kind}
 use Rattle.checking.specs.declared.Written.{Written}
 use Rattle.bytes_read.specs.Scans.{haltNumber}
-use Rattle.bytes_read.specs.Room.{leftBy, RoomPromise}
+use Rattle.checking.specs.Room.{Left, leftBy, Leaves}
 use Rattle.tag_scan.specs.TagLists.{treeScan, numbersIn}
 use Rattle.tag_lists.specs.declared.TreeRead.{TreeRead}
 
+-- what reading one whole tag list answers and leaves
+abbrev pub tagsLeft : Kind → List ℕ → List ℕ → Left
+tagsLeft k b room =
+    leftBy (haltNumber (treeScan true (anyName k) (most k) b 0 .halt)) 0 (numbersIn b 0 (treeScan true (anyName k) (most k) b 0 .state .count)) room
+
 -- the promise of reading one whole tag list
 abbrev pub TagsPromise : Kind → List ℕ → List ℕ → Written → List ℕ → Type 0
-TagsPromise k b room w after =
-    RoomPromise (haltNumber (treeScan true (anyName k) (most k) b 0 .halt)) 0
-    (numbersIn b 0 (treeScan true (anyName k) (most k) b 0 .state .count)) room w after
+TagsPromise k b room w after = Leaves (tagsLeft k b room) w after
 
 -- a reading in numbers: what a call that writes into lent room answers, and the place where the tree ended, 0 at a refusal
 pub record ReadTold : Type 0 where
   pub answer : Answered
   pub end : ℕ
 
+-- what a reading of one tree answers, in numbers
 abbrev pub readTold : TreeRead → ReadTold
 readTold (TreeRead.Tree l end) = record { answer = worked l; end = end }
 readTold (TreeRead.Refused r) = record { answer = refusedAs (r .number) (r .entry .0); end = 0 }
@@ -57,6 +61,7 @@ pub record Filled (number end : ℕ) (result room : List ℕ) (fault at l : ℕ)
   pub ended : fault ≡ 0 → at ≡ end
   pub long : fault ≡ 0 → l ≡ length result
 
+-- the promise of the pass that both readers call
 abbrev pub FilledPromise : Bool → Kind → List ℕ → ℕ → List ℕ → ℕ → ℕ → ℕ → List ℕ → Type 0
 FilledPromise whole k b p room fault at l after =
     Filled (haltNumber (treeScan whole (anyName k) (most k) b p .halt)) (treeScan whole (anyName k) (most k) b p .state .at)

@@ -4,7 +4,7 @@ ghost use Prim.Native.Nat.{_*_, _≤_};
 ghost use lib.ListN.{length};
 ghost use Rattle.trees.specs.Signature.{width};
 ghost use Rattle.trees.specs.Tags.{WholeTags};
-ghost use Rattle.bytes_read.specs.Room.{frontWith};
+ghost use Rattle.checking.specs.Room.{frontWith};
 ghost use Rattle.tag_scan.specs.TagLists.{tagsFrom, numbersIn};
 ghost use Rattle.tag_lists.specs.Readers.{TagsPromise, TreePromise, FilledPromise};
 ghost use Rattle.tag_lists.specs.Builds.{openRoom, closeRoom};

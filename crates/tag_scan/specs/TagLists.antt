@@ -26,9 +26,11 @@ tagBytes [] = []
 tagBytes (opens a ∷ l) = 79 ∷ 80 ∷ low a ∷ high a ∷ tagBytes l
 tagBytes (closes ∷ l) = 67 ∷ 76 ∷ tagBytes l
 
+-- the mark at place p is `OP`: it "opens an element"
 abbrev pub opening : List ℕ → ℕ → Bool
 opening b p = marked b p 79 80
 
+-- the mark at place p is `CL`: it "closes the innermost one"
 abbrev pub closing : List ℕ → ℕ → Bool
 closing b p = marked b p 67 76
 
@@ -36,6 +38,7 @@ closing b p = marked b p 67 76
 unfoldable pub closedWith : ℕ → ℕ → Bool
 closedWith depth count = eqb depth 0 && ltb 0 count
 
+-- the scan has come to the close of the root
 abbrev pub rootClosed : Scan → Bool
 rootClosed st = closedWith (st .depth) (st .count)
 
@@ -66,6 +69,7 @@ tagNext b st =
 unfoldable pub treeEnd : Bool → List ℕ → Scan → Bool
 treeEnd whole b st = rootClosed st && (not whole || eqb (st .at) (length b))
 
+-- the records from place p on, up to the close of the root or, for one whole list, up to the end of the bytes
 abbrev pub treeScan : Bool → Bool → ℕ → List ℕ → ℕ → Turned Scan
 treeScan whole any most b p = scanBy (treeEnd whole b) (tagFault any most b) (tagNext b) (length b) (begin p)
 

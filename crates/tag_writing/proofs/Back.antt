@@ -19,13 +19,13 @@ use Rattle.checking.specs.declared.Verdict.{Verdict}
 use Rattle.checking.specs.declared.Written.{Written}
 use Rattle.checking.proofs.Runs.{most-small}
 use Rattle.checked.specs.Wholly.{accepted-tree}
-use Rattle.bytes_read.specs.Room.{Left, leftBy, LeftPromise, RoomPromise}
+use Rattle.checking.specs.Room.{Left, leftBy, Leaves, RoomPromise}
 use Rattle.tag_writing.specs.TagsBack.{backBytes, backLeft, BackPromise}
 
 pub signature-long : (s : List ℕ) (t : Tree) → s ≡ signature t → length s ≡ 4 * size (whole t)
 signature-long s t e = ap length e ∙ signature-length (whole t) 1 0 0
 
-pub left-as : (x y : Left) (w : Written) (after : List ℕ) → x ≡ y → LeftPromise y w after → LeftPromise x w after
+pub left-as : (x y : Left) (w : Written) (after : List ℕ) → x ≡ y → Leaves y w after → Leaves x w after
 left-as x y w after q p = record { told = p .told ∙ ap (λ (l : Left). l .answer) (sym q); left = p .left ∙ ap (λ (l : Left). l .room) (sym q) }
 
 module _ (k : Kind) (s : List ℕ) (v : Verdict) (p : WholePromise k s v) where

@@ -17,7 +17,7 @@ use Rattle.checking.specs.Stops.{refusedAs}
 use Rattle.checking.specs.Whole.{wholeOf}
 use Rattle.checking.specs.declared.Kind.{Kind}
 use Rattle.checking.specs.declared.Written.{Written}
-use Rattle.bytes_read.specs.Room.{Left, leftBy, LeftPromise}
+use Rattle.checking.specs.Room.{Left, leftBy, Leaves}
 use Rattle.tag_scan.specs.TagLists.{tagBytes}
 
 -- an entry's block is what is below it, and the row goes on where the block ends
@@ -44,7 +44,7 @@ backLeft k s room =
 
 -- the promise of writing a signature as a tag list
 abbrev pub BackPromise : Kind → List ℕ → List ℕ → Written → List ℕ → Type 0
-BackPromise k s room w after = LeftPromise (backLeft k s room) w after
+BackPromise k s room w after = Leaves (backLeft k s room) w after
 
 -- ---- one tag
 

@@ -7,7 +7,7 @@ ghost use lib.Seq.{sets};
 ghost use Rattle.trees.specs.Tree.{Tree, size, whole};
 ghost use Rattle.trees.specs.Signature.{signature};
 ghost use Rattle.bytes_read.specs.Bytes.{low, high};
-ghost use Rattle.bytes_read.specs.Room.{frontWith, RoomPromise};
+ghost use Rattle.checking.specs.Room.{frontWith, RoomPromise};
 ghost use Rattle.tag_writing.specs.TagsBack.{backBytes, endsAt, BackPromise};
 use checking::Kind;
 use checking::PreRank;

@@ -1,4 +1,7 @@
 // One case of each call: what is tried is said, the call is made, and its answer and the room are printed.
+use crate::lines::digit;
+use crate::lines::mark_at;
+use crate::lines::part;
 use crate::shown::octets;
 use crate::shown::text;
 use crate::shown::told;
@@ -6,75 +9,112 @@ use crate::shown::told_tree;
 use crate::shown::words;
 use checking::Kind;
 
-// Signature records, read into a room.
-pub fn records_read(label: &[u8], bytes: &[u8], room: &mut [u16]) {
-    text(label);
-    let answer = records::read_records(bytes, &mut *room);
-    told(answer);
+// The kind that a way of reading or writing tag lists is for: 3 a twig.
+fn kind_of(how: u16) -> Kind {
+    if how == 3 { Kind::Twig } else { Kind::Data }
+}
+
+// A reading into a room: 1 of signature records, 2 of a data tree's tag list, 3 of a twig's, 4 of one tree from its beginning on.
+fn read(how: u16, bytes: &[u8], room: &mut [u16]) {
+    if how == 1 {
+        told(records::read_records(bytes, room));
+        return;
+    }
+    if how == 4 {
+        told_tree(tag_lists::read_tree(Kind::Data, bytes, 0, room));
+        return;
+    }
+    told(tag_lists::tags_to_signature(kind_of(how), bytes, room));
+}
+
+// The same, with what the room holds.
+pub fn read_into(how: u16, bytes: &[u8], room: &mut [u16]) {
+    read(how, bytes, &mut *room);
     words(&*room);
 }
 
-// A signature, written as records.
-pub fn records_written(label: &[u8], sig: &[u16], room: &mut [u8]) {
-    text(label);
-    let answer = records::write_records(sig, &mut *room);
-    told(answer);
+// A writing into a room: 1 of signature records, 2 of a data tree's tag list, 3 of a twig's.
+fn write(how: u16, sig: &[u16], room: &mut [u8]) {
+    if how == 1 {
+        told(records::write_records(sig, room));
+        return;
+    }
+    told(tag_writing::signature_to_tags(kind_of(how), sig, room));
+}
+
+pub fn write_into(how: u16, sig: &[u16], room: &mut [u8]) {
+    write(how, sig, &mut *room);
     octets(&*room);
 }
 
-// A whole tag list, read into a room.
-pub fn tags_read(label: &[u8], kind: Kind, bytes: &[u8], room: &mut [u16]) {
-    text(label);
-    let answer = tag_lists::tags_to_signature(kind, bytes, &mut *room);
-    told(answer);
-    words(&*room);
-}
-
-// One tree from a place on.
-pub fn tree_read(label: &[u8], kind: Kind, bytes: &[u8], from: usize, room: &mut [u16]) {
-    text(label);
-    let answer = tag_lists::read_tree(kind, bytes, from, &mut *room);
-    told_tree(answer);
-    words(&*room);
-}
-
-// A signature, written as a tag list.
-pub fn tags_written(label: &[u8], kind: Kind, sig: &[u16], room: &mut [u8]) {
-    text(label);
-    let answer = tag_writing::signature_to_tags(kind, sig, &mut *room);
-    told(answer);
-    octets(&*room);
-}
-
-// The same for a case that is refused or has one or two elements: the room is small.
-pub fn records_case(label: &[u8], bytes: &[u8]) {
+// A room of four, of eight or of no numbers.
+fn in_four(how: u16, bytes: &[u8]) {
     let mut room = [9u16; 4];
-    records_read(label, bytes, &mut room);
+    read_into(how, bytes, &mut room);
 }
 
-pub fn data_case(label: &[u8], bytes: &[u8]) {
+fn in_eight(how: u16, bytes: &[u8]) {
     let mut room = [9u16; 8];
-    tags_read(label, Kind::Data, bytes, &mut room);
+    read_into(how, bytes, &mut room);
 }
 
-pub fn twig_case(label: &[u8], bytes: &[u8]) {
-    let mut room = [9u16; 8];
-    tags_read(label, Kind::Twig, bytes, &mut room);
+fn in_none(how: u16, bytes: &[u8]) {
+    let mut room = [0u16; 0];
+    read_into(how, bytes, &mut room);
 }
 
-pub fn tree_case(label: &[u8], bytes: &[u8], from: usize) {
-    let mut room = [9u16; 8];
-    tree_read(label, Kind::Data, bytes, from, &mut room);
+// A reading of the way given in the room that it is tried with.
+pub fn read_case(how: u16, bytes: &[u8]) {
+    if how == 1 {
+        in_four(how, bytes);
+    } else {
+        in_eight(how, bytes);
+    }
 }
 
-pub fn write_case(label: &[u8], sig: &[u16]) {
-    let mut room = [9u8; 12];
-    records_written(label, sig, &mut room);
+// A line has the way of reading, the label up to `|` and the bytes. With 5 it is read in the ways 2 to 4, and over 5 with no room.
+fn read_line(line: &[u8]) {
+    let mark = mark_at(line, 0, 124);
+    let how = digit(line, 0);
+    let label = part(line, 1, mark);
+    let bytes = after(line, mark);
+    if how == 5 {
+        read_thrice(label, bytes);
+        return;
+    }
+    text(label);
+    if 5 < how {
+        in_none(how - 5, bytes);
+        return;
+    }
+    read_case(how, bytes);
 }
 
-pub fn back_case(label: &[u8], kind: Kind, sig: &[u16]) {
-    let mut room = [9u8; 14];
-    tags_written(label, kind, sig, &mut room);
+// What follows the place.
+fn after(bytes: &[u8], at: usize) -> &[u8] {
+    if at < bytes.len() {
+        &bytes[at + 1..]
+    } else {
+        bytes
+    }
+}
+
+fn read_thrice(label: &[u8], bytes: &[u8]) {
+    text(label);
+    read_case(2, bytes);
+    text(label);
+    read_case(3, bytes);
+    text(label);
+    read_case(4, bytes);
+}
+
+pub fn each_read(lines: &[u8]) {
+    let mut from = 0;
+    while from < lines.len() {
+        let to = mark_at(lines, from, 126);
+        read_line(&lines[from..to]);
+        from = to + 1;
+    }
 }
 
 // The first n bytes, or all of them.
@@ -83,6 +123,67 @@ pub fn front(bytes: &[u8], n: usize) -> &[u8] {
         &bytes[0..n]
     } else {
         bytes
+    }
+}
+
+fn front_numbers(s: &[u16], n: usize) -> &[u16] {
+    if n <= s.len() { &s[0..n] } else { s }
+}
+
+// The eight numbers of a line from the fourth on.
+fn eight_numbers(line: &[u8]) -> [u16; 8] {
+    let mut sig = [0u16; 8];
+    for i in 0..8usize {
+        sig[i] = digit(line, 3 + i);
+    }
+    sig
+}
+
+fn in_twelve(how: u16, sig: &[u16]) {
+    let mut room = [9u8; 12];
+    write_into(how, sig, &mut room);
+}
+
+fn in_fourteen(how: u16, sig: &[u16]) {
+    let mut room = [9u8; 14];
+    write_into(how, sig, &mut room);
+}
+
+fn in_no_bytes(how: u16, sig: &[u16]) {
+    let mut room = [0u8; 0];
+    write_into(how, sig, &mut room);
+}
+
+// A writing in a room of so many bytes.
+fn write_case(how: u16, room: u16, sig: &[u16]) {
+    if room == 0 {
+        in_no_bytes(how, sig);
+        return;
+    }
+    if room == 12 {
+        in_twelve(how, sig);
+        return;
+    }
+    in_fourteen(how, sig);
+}
+
+// A line has the way of writing, the room, the length and the numbers of the signature, and the label.
+fn write_line(line: &[u8]) {
+    let sig = eight_numbers(line);
+    text(after(line, 10));
+    write_case(
+        digit(line, 0),
+        digit(line, 1),
+        front_numbers(&sig, digit(line, 2) as usize),
+    );
+}
+
+pub fn each_written(lines: &[u8]) {
+    let mut from = 0;
+    while from < lines.len() {
+        let to = mark_at(lines, from, 126);
+        write_line(&lines[from..to]);
+        from = to + 1;
     }
 }
 

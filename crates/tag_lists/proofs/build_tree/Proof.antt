@@ -6,7 +6,7 @@ use native.Mathlib.Nat.{sub-zero}
 use native.Mathlib.Omega.{arith}
 use borrow.Author.Needs.{needs}
 use Rattle.trees.specs.Tags.{Tag}
-use Rattle.bytes_read.specs.Room.{frontWith}
+use Rattle.checking.specs.Room.{frontWith}
 use Rattle.tag_scan.specs.TagLists.{tagsFrom}
 use Rattle.tag_lists.proofs.Build.{Builds, buildOf, builds-start, builds-end, builds-open, builds-close, build-tree, whole-numbers}
 use Rattle.tag_lists.proofs.build_tree.Statement.{statement}

@@ -1,31 +1,27 @@
--- The bytes keep their length, and what is left of the count falls.
-use Prim.Native.Nat.{_-_, _≤_}
-use mathlib.Core.Path.{_≡_}
-use lib.ListN.{length}
 use borrow.Author.Needs.{needs}
+use lib.ListN.{length}
+use mathlib.Core.Path.{_≡_}
+use Prim.Native.Nat.{_-_, _≤_}
 use Rattle.tried_records.proofs.sizes.put_records.Statement.{statement}
 use Rattle.tried_records.proofs.sizes.put_records.Tie as tie
 
 abbrev Inv-loop : tie.InvT-loop
-Inv-loop bytes₀ n i₀ bytes i = (length bytes ≡ length bytes₀) × (i ≤ n)
+Inv-loop bytes₀ p₀ bytes p = (p ≤ 40970) × (length bytes ≡ length bytes₀)
 
 abbrev μ-loop : tie.MeasureT-loop
-μ-loop bytes₀ n i₀ bytes i = n - i
+μ-loop bytes₀ p₀ bytes p = 40970 - p
 
 loop-holds : tie.Need-loop-holds Inv-loop μ-loop
 loop-holds c = search needs
 
-cast-put-record : tie.Need-cast-put-record Inv-loop μ-loop
-cast-put-record c = search needs
+record-byte-requires : tie.Need-record-byte-requires Inv-loop μ-loop
+record-byte-requires c κs = search needs
 
-mul-put-record : tie.Need-mul-put-record Inv-loop μ-loop
-mul-put-record c = search needs
+store-requires : tie.Need-store-requires Inv-loop μ-loop
+store-requires c κs = search needs
 
-put-record-requires : tie.Need-put-record-requires Inv-loop μ-loop
-put-record-requires c κs = search needs
-
-add-i : tie.Need-add-i Inv-loop μ-loop
-add-i c = search needs
+add-p : tie.Need-add-p Inv-loop μ-loop
+add-p c = search needs
 
 loop-less : tie.Need-loop-less Inv-loop μ-loop
 loop-less c = search needs
@@ -46,10 +42,9 @@ put-records-spec =
     Inv-loop
     μ-loop
     loop-holds
-    cast-put-record
-    mul-put-record
-    put-record-requires
-    add-i
+    record-byte-requires
+    store-requires
+    add-p
     loop-less
     loop-again
     same-length
