@@ -1,35 +1,17 @@
 -- Which case of a definition holds under which facts.
---   kept-…       whether the count-th element is kept
 --   self-…, sibling-…, chosen-…   the tests of the axes
+--   pick-…       which number is picked
+--   between-…    whether a rank lies between two others
 --   axis-…       which test an axis is
-use Prim.Native.Nat.{ℕ, zero, suc, _+_, _*_, _-_, _≤_, _<_}
-use native.Mathlib.Omega.{arith}
-use mathlib.Core.Path.{_≡_, refl, ap, _∙_, sym}
-use mathlib.Core.List.{List, [], _∷_}
-use mathlib.Core.Logic.{⊎-elim}
-use native.Mathlib.Nat.{eq-or-lt-of-le}
-use types.Run.{OneOf}
-use mathlib.Core.Bool.{Bool, true, false, not, _&&_, _||_, and-false, and-true, or-true, or-false, false≢true}
-use lib.Dec.{ltb, leb, eqb}
-use borrow.Author.Tests.{lt-ltb, le-ltb, le-leb, lt-leb, eq-eqb, ne-eqb, ltb-true, leb-true}
+use Prim.Native.Nat.{ℕ, _-_, _≤_, _<_}
+use mathlib.Core.Path.{_≡_, refl, ap, sym}
+use mathlib.Core.Logic.{_⊎_, inl, inr}
+use mathlib.Core.Bool.{Bool, true, false, _&&_, and-false, and-true, true≢false}
+use lib.Dec.{leb, eqb}
+use borrow.Author.Tests.{lt-ltb, le-ltb, le-leb, lt-leb, eq-eqb, ne-eqb, leb-false}
+use Rattle.trees.specs.Names.{passes}
 use Rattle.turns.specs.Pick.{pick}
-use Rattle.xpath.specs.Axes.{parentOf, ancestorOf, ancestorOrSelf, wholeBefore, siblingBefore, onAxis, passes, chosen}
-use Rattle.axes.specs.Position.{keptAt}
-
--- ---- positions
-
-module _ (p count : ℕ) where
-  pub kept-none : p ≡ 0 → keptAt p count ≡ true
-  unfolding keptAt
-  kept-none h = simp (eq-eqb _ _ h)
-
-  pub kept-yes : count ≡ p → keptAt p count ≡ true
-  unfolding keptAt
-  kept-yes h = simp (eq-eqb _ _ h, or-true)
-
-  pub kept-no : (p ≡ 0 → ⊥) → (count ≡ p → ⊥) → keptAt p count ≡ false
-  unfolding keptAt
-  kept-no h g = simp (ne-eqb _ _ h, ne-eqb _ _ g)
+use Rattle.xpath.specs.Axes.{parentOf, ancestorOf, ancestorOrSelf, wholeBefore, siblingBefore, onAxis, chosen}
 
 -- ---- the tests of the axes
 
@@ -68,9 +50,42 @@ module _ (axis n : ℕ) (parent name : ℕ → ℕ) (test c j : ℕ) where
   unfolding chosen
   chosen-named h = simp (h, and-true)
 
+  pub chosen-off : onAxis axis n parent c j ≡ false → chosen axis n parent name test c j ≡ false
+  unfolding chosen
+  chosen-off h = simp h
+
   pub chosen-other : passes test (name j) ≡ false → chosen axis n parent name test c j ≡ false
   unfolding chosen
   chosen-other h = simp (h, and-false)
+
+-- ---- one number or the other
+
+module _ (b : Bool) (x y : ℕ) where
+  pub pick-yes : b ≡ true → x ≡ pick b x y
+  pick-yes h = sym (simp h)
+
+  pub pick-no : b ≡ false → y ≡ pick b x y
+  pick-no h = sym (simp h)
+
+-- ---- a rank between two others
+
+module _ (j c last : ℕ) where
+  pub between-yes : j ≤ c → c ≤ last → true ≡ (leb j c && leb c last)
+  between-yes l h = sym (simp (le-leb j c l, le-leb c last h))
+
+  pub between-early : c < j → false ≡ (leb j c && leb c last)
+  between-early l = sym (simp (lt-leb j c l))
+
+  pub between-late : last < c → false ≡ (leb j c && leb c last)
+  between-late h = sym (simp (lt-leb c last h, and-false))
+
+  pub between-no : (leb j c && leb c last) ≡ false → (c < j) ⊎ (last < c)
+  between-no q = go (leb j c) (leb c last) refl refl q
+    where
+      go : (a b : Bool) → leb j c ≡ a → leb c last ≡ b → (a && b) ≡ false → (c < j) ⊎ (last < c)
+      go true true x y z = absurd (true≢false z)
+      go true false x y z = inr (leb-false c last y)
+      go false b x y z = inl (leb-false j c x)
 
 -- ---- which test an axis is
 

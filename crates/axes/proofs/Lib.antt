@@ -1,2 +1,3 @@
 pub mod Cases
-pub mod Marking
+pub mod Ranges
+pub mod Found

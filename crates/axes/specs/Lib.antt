@@ -1,2 +1,2 @@
--- Axes: how the code counts for a position. What the call promises is in `marks/specs/Axis`.
-pub mod Position
+-- Axes: where the code looks for an element. What the call promises is in `marks/specs/Axis`.
+pub mod Range

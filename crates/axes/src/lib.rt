@@ -1,4 +1,6 @@
 // Layer 6, axes: the eleven axes with name test and position. Without a position they are taken in one pass; with one, each context is counted by itself.
+mod reach;
+
 use checking::BAD_ARGUMENT;
 use checking::Kind;
 use checking::PreRank;
@@ -6,38 +8,29 @@ use checking::Refusal;
 use checking::Verdict;
 use checking::Written;
 use checking::check_whole;
-use checking::entry_number;
 use marks::is_fine;
 use marks::is_named;
 use marks::write_marked;
 use one_pass::axis_without_position;
+use reach::before_axis;
+use reach::end_of_axis;
+use reach::first_past;
+use reach::parent;
+use reach::skipped;
 ghost use mathlib.Core.Path.{_≡_};
 ghost use mathlib.Core.Bool.{true, false, _||_};
-ghost use Prim.Native.Nat.{_≤_};
+ghost use Prim.Native.Nat.{_+_, _≤_};
 ghost use lib.Dec.{eqb};
 ghost use lib.ListN.{length};
-ghost use Rattle.trees.specs.Signature.{entriesOf, width};
-ghost use Rattle.checked.specs.Yields.{entries};
+ghost use Rattle.turns.specs.Pick.{pick};
+ghost use Rattle.trees.specs.Signature.{entriesOf, width, entries};
 ghost use Rattle.xpath.specs.Select.{within};
 ghost use Rattle.xpath.specs.Axes.{parentOf, ancestorOf, ancestorOrSelf, wholeBefore, siblingBefore, onAxis, chosen, kept, inAnswer, answerOf};
 ghost use Rattle.blocks.specs.Checked.{Ready};
-ghost use Rattle.marks.specs.Axis.{roomFor, axisWithin, Leaves, AxisPromise};
+ghost use Rattle.checking.specs.Room.{roomFor, Leaves};
+ghost use Rattle.marks.specs.Axis.{axisWithin, AxisPromise};
 ghost use Rattle.marks.specs.Marks.{marked, Marks};
-ghost use Rattle.axes.specs.Position.{keptAt};
-
-// The parent of entry i, or 0.
-fn parent(sig: &[u16], i: u16) -> u16
-    ensures { λ r. ⌜ r ≡ entriesOf width (now (sig .entry)) .fa i ⌝ }
-{
-    entry_number(sig, PreRank(i), 3)
-}
-
-// The first rank after entry i that is not below it.
-fn first_past(sig: &[u16], i: u16) -> u16
-    ensures { λ r. ⌜ r ≡ entriesOf width (now (sig .entry)) .ff i ⌝ }
-{
-    entry_number(sig, PreRank(i), 2)
-}
+ghost use Rattle.axes.specs.Range.{Only};
 
 // Whether a is an ancestor of j.
 fn is_ancestor(sig: &[u16], n: u16, a: u16, j: u16) -> bool
@@ -131,33 +124,43 @@ fn is_chosen(sig: &[u16], n: u16, axis: u16, test: u16, c: u16, j: u16) -> bool
     false
 }
 
-// Whether the element that is the count-th to pass is kept for position p.
-fn is_kept(p: u16, count: u16) -> bool
-    ensures { λ r. ⌜ «r» ≡ keptAt p count ⌝ }
+// The count after entry j: one more where j is chosen.
+fn counted(sig: &[u16], n: u16, axis: u16, test: u16, c: u16, j: u16, met: u16) -> u16
+    requires { ⌜ Ready (now sig) n × (axis ≤ 10) × (1 ≤ c) × (c ≤ n) × (1 ≤ j) × (j ≤ n) × (met ≤ 4096) ⌝ }
+    ensures { λ r. ⌜ r ≡ pick (chosen axis n (entriesOf width (now (sig .entry)) .fa) (entriesOf width (now (sig .entry)) .name) test c j) (met + 1) met ⌝ }
 {
-    if p == 0 {
-        return true;
+    if is_chosen(sig, n, axis, test, c, j) {
+        return met + 1;
     }
-    if count == p { true } else { false }
+    met
 }
 
-// Marks what is kept for one context, beside the marks that are there.
+// The rank of the element that is kept for one context, or 0. The search begins where the axis does and ends with it, or at the element.
+fn find_kept(sig: &[u16], n: u16, axis: u16, test: u16, p: u16, c: u16) -> u16
+    requires { ⌜ Ready (now sig) n × (axis ≤ 10) × (1 ≤ p) × (1 ≤ c) × (c ≤ n) ⌝ }
+    ensures { λ r. ⌜ Only n (kept axis p (chosen axis n (entriesOf width (now (sig .entry)) .fa) (entriesOf width (now (sig .entry)) .name) test c)) r ⌝ }
+{
+    let end = end_of_axis(sig, n, axis, c);
+    let mut met: u16 = 0;
+    let mut j = before_axis(sig, n, axis, c);
+    while j < end {
+        j += 1;
+        met = counted(sig, n, axis, test, c, j, met);
+        if met == p {
+            return j;
+        }
+        j = skipped(sig, n, axis, c, j);
+    }
+    0
+}
+
+// Marks what is kept for one context, beside the marks that are there. Rank 0 is no element, so that its mark says nothing.
 fn mark_context(sig: &[u16], n: u16, axis: u16, test: u16, p: u16, c: u16, marks: &mut [u8; 4097])
-    requires { ⌜ Ready (now sig) n × (axis ≤ 10) × (1 ≤ c) × (c ≤ n) × (length (now marks) ≡ 4097) ⌝ }
+    requires { ⌜ Ready (now sig) n × (axis ≤ 10) × (1 ≤ p) × (1 ≤ c) × (c ≤ n) × (length (now marks) ≡ 4097) ⌝ }
     ensures { λ _. ⌜ Marks n (λ j. marked (now (marks .entry)) j || kept axis p (chosen axis n (entriesOf width (now (sig .entry)) .fa) (entriesOf width (now (sig .entry)) .name) test c) j) (now (marks .exit)) ⌝ }
 {
-    let mut met: u16 = 0;
-    let mut j: u16 = 0;
-    while j < n {
-        j += 1;
-        if is_chosen(sig, n, axis, test, c, j) {
-            met += 1;
-            if is_kept(p, met) {
-                let at = j as usize;
-                marks[at] = 1;
-            }
-        }
-    }
+    let at = find_kept(sig, n, axis, test, p, c) as usize;
+    marks[at] = 1;
 }
 
 // Marks what is kept for one of the contexts.
@@ -170,7 +173,7 @@ fn mark_each(
     p: u16,
     marks: &mut [u8; 4097],
 )
-    requires { ⌜ Ready (now sig) n × (axis ≤ 10) × (within n (now contexts) ≡ true) × Marks n (λ j. false) (now marks) ⌝ }
+    requires { ⌜ Ready (now sig) n × (axis ≤ 10) × (1 ≤ p) × (within n (now contexts) ≡ true) × Marks n (λ j. false) (now marks) ⌝ }
     ensures { λ _. ⌜ Marks n (inAnswer axis n (entriesOf width (now (sig .entry)) .fa) (entriesOf width (now (sig .entry)) .name) test p (now (contexts .entry))) (now (marks .exit)) ⌝ }
 {
     let mut k = 0;
@@ -191,7 +194,7 @@ fn select(
     p: u16,
     room: &mut [u16],
 ) -> Written
-    requires { ⌜ Ready (now sig) n × (axis ≤ 10) × (within n (now contexts) ≡ true) ⌝ }
+    requires { ⌜ Ready (now sig) n × (axis ≤ 10) × (1 ≤ p) × (within n (now contexts) ≡ true) ⌝ }
     ensures { λ r. ⌜ Leaves (roomFor (now (room .entry)) (answerOf axis n (entriesOf width (now (sig .entry)) .fa) (entriesOf width (now (sig .entry)) .name) test p (now (contexts .entry)))) r (now (room .exit)) ⌝ }
 {
     let mut marks = [0u8; 4097];
@@ -208,7 +211,7 @@ fn axis_within(
     p: u16,
     room: &mut [u16],
 ) -> Written
-    requires { ⌜ Ready (now sig) (entries (now sig)) ⌝ }
+    requires { ⌜ Ready (now sig) (entries (now sig)) × (1 ≤ p) ⌝ }
     ensures { λ r. ⌜ Leaves (axisWithin (now (sig .entry)) (now (contexts .entry)) axis test p (now (room .entry))) r (now (room .exit)) ⌝ }
 {
     let n = (sig.len() / 4) as u16;
@@ -230,6 +233,7 @@ fn axis_with_position(
     position: u16,
     room: &mut [u16],
 ) -> Written
+    requires { ⌜ 1 ≤ position ⌝ }
     ensures { λ r. ⌜ AxisPromise (now (sig .entry)) (now (contexts .entry)) axis name position (now (room .entry)) r (now (room .exit)) ⌝ }
 {
     let verdict = check_whole(Kind::Data, sig);

@@ -12,6 +12,7 @@ use native.Mathlib.Omega.{arith}
 use lib.ListN.{length}
 use lib.Dec.{ltb, leb, eqb}
 use borrow.Author.Tests.{ltb-true, leb-true}
+use Rattle.trees.specs.Signature.{entries}
 use Rattle.trees.specs.Order.{lt-or-ge}
 use Rattle.trees.specs.Tree.{Forest, whole, size}
 use Rattle.trees.specs.Nodes.{Node}
@@ -24,7 +25,7 @@ use Rattle.checking.specs.declared.Refusal.{Refusal}
 use Rattle.checking.specs.declared.Written.{Written}
 use Rattle.checking.specs.Stops.{Answered, worked, refusedAs, answered}
 use Rattle.checking.specs.Whole.{wholeOf, WholePromise}
-use Rattle.checked.specs.Yields.{Words, Yields, entries}
+use Rattle.checked.specs.Yields.{Words, Yields}
 use Rattle.checked.specs.Accepted.{tree-of}
 use Rattle.checked.specs.Apart.{answered-apart}
 use Rattle.checked.specs.Wholly.{whole-exactly}
@@ -33,7 +34,8 @@ use Rattle.xpath.specs.OnNodes.{InOrder, Lists, InUnion}
 use Rattle.xpath.specs.NodeLists.{lists-unique}
 use Rattle.blocks.specs.Checked.{afterCheck}
 use Rattle.blocks.proofs.Calls.{after-accepted, accepted-or-not}
-use Rattle.marks.specs.Axis.{Left, argumentsFine, refusedLeft, answerIn, axisWithin, axisAnswer, AxisPromise}
+use Rattle.checking.specs.Room.{Left, refusedLeft}
+use Rattle.marks.specs.Axis.{argumentsFine, answerIn, axisWithin, axisAnswer, AxisPromise}
 use Rattle.marks.proofs.Calls.{fine-inverse, within-fine, within-bad, room-enough, room-short}
 use Rattle.axes_told.specs.Xpath.{axis-is-xpath}
 
@@ -120,11 +122,12 @@ module _ (s : List ℕ) (w : Words s) (contexts : List ℕ) (axis name p : ℕ) 
     pub fine : argumentsFine axis (entries s) contexts ≡ true
     pub said : answered r ≡ worked (length (answerIn s contexts axis name p))
 
+  -- what an axis call comes to: refused by the check, by an argument or by the room, or worked
   abbrev pub Case : Type 0
   Case = Unchecked ⊎ (BadArgument ⊎ (NoRoom ⊎ Done))
 
-  told : {x : Left} → axisAnswer s contexts axis name p room ≡ x → answered r ≡ x .told
-  told e = h .said ∙ ap (λ (y : Left). y .told) e
+  told : {x : Left} → axisAnswer s contexts axis name p room ≡ x → answered r ≡ x .answer
+  told e = h .told ∙ ap (λ (y : Left). y .answer) e
 
   pub which : Case
   unfolding afterCheck
@@ -163,6 +166,7 @@ module _ (s : List ℕ) (w : Words s) (contexts : List ℕ) (axis name p : ℕ) 
     pub number-is : why .number ≡ number
     pub entry-is : why .entry .0 ≡ entry
 
+  -- why a call refused and with which number: the check's for a faulty list, 8 for an argument, 10 for the room
   abbrev pub Refusing : Refusal → Type 0
   Refusing why =
       Why why (wholeOf Kind.Data s .number) (wholeOf Kind.Data s .entry) (eqb (wholeOf Kind.Data s .reason) 1 ≡ false)

@@ -14,20 +14,21 @@ use lib.Seq.{length-take-le}
 use lib.Dec.{leb, eqb}
 use borrow.Author.Tests.{leb-true}
 use Rattle.turns.specs.Pick.{pick}
+use Rattle.trees.specs.Signature.{entries}
 use Rattle.checking.specs.declared.Kind.{Kind}
 use Rattle.checking.specs.declared.Verdict.{Verdict}
 use Rattle.checking.specs.declared.Refusal.{Refusal}
 use Rattle.checking.specs.declared.Written.{Written}
 use Rattle.checking.specs.Stops.{Answered, answered}
 use Rattle.checking.specs.Whole.{wholeOf, WholePromise}
-use Rattle.checked.specs.Yields.{entries}
 use Rattle.checked.specs.Apart.{answered-apart}
 use Rattle.blocks.specs.declared.LevelAnswer.{LevelAnswer}
 use Rattle.blocks.specs.declared.PlaceAnswer.{PlaceAnswer}
 use Rattle.blocks.specs.Checked.{afterCheck, isRank}
 use Rattle.blocks.specs.Level.{Leveled, levelTold, LevelPromise}
 use Rattle.blocks.specs.Block.{Placed, placeTold, placeRefused, placeWithin, placeAnswer, PlacePromise, partAt, BlockPromise}
-use Rattle.marks.specs.Axis.{Left, axisAnswer, axisWithin, roomFor, argumentsFine, refusedLeft, writtenLeft, answerIn, AxisPromise}
+use Rattle.checking.specs.Room.{Left, roomFor, refusedLeft, writtenLeft}
+use Rattle.marks.specs.Axis.{axisAnswer, axisWithin, argumentsFine, answerIn, AxisPromise}
 use Rattle.blocks.proofs.Calls.{rank-inverse}
 use Rattle.blocks.proofs.Calls.{ready-of, after-accepted, accepted-or-not, place-yes, place-no, place-inside}
 
@@ -67,33 +68,33 @@ one-block s i r q a b = a ∙ sym b
 module _ (s contexts : List ℕ) (axis name p : ℕ) (room : List ℕ) where
   pub one-axis : (r q : Written) (x y : List ℕ) → AxisPromise s contexts axis name p room r x → AxisPromise s contexts axis name p room q y
       → (r ≡ q) × (x ≡ y)
-  one-axis r q x y a b = (answered-apart r q (a .said ∙ sym (b .said)), a .left ∙ sym (b .left))
+  one-axis r q x y a b = (answered-apart r q (a .told ∙ sym (b .told)), a .left ∙ sym (b .left))
 
   -- ---- a refusal writes nothing
 
-  within-kept : axisWithin s contexts axis name p room .told .refused ≡ 1 → axisWithin s contexts axis name p room .room ≡ room
+  within-kept : axisWithin s contexts axis name p room .answer .refused ≡ 1 → axisWithin s contexts axis name p room .room ≡ room
   unfolding axisWithin roomFor
   within-kept = go (argumentsFine axis (entries s) contexts) (leb (length (answerIn s contexts axis name p)) (length room))
     where
       go : (a b : Bool)
-          → _≡_ {A = ℕ} (pick a (pick b (writtenLeft room (answerIn s contexts axis name p)) (refusedLeft room 10 0)) (refusedLeft room 8 0) .told .refused) 1
+          → _≡_ {A = ℕ} (pick a (pick b (writtenLeft room (answerIn s contexts axis name p)) (refusedLeft room 10 0)) (refusedLeft room 8 0) .answer .refused) 1
           → pick a (pick b (writtenLeft room (answerIn s contexts axis name p)) (refusedLeft room 10 0)) (refusedLeft room 8 0) .room ≡ room
       go true true h = absurd (omega arith)
       go true false h = refl
       go false b h = refl
 
-  axis-kept : axisAnswer s contexts axis name p room .told .refused ≡ 1 → axisAnswer s contexts axis name p room .room ≡ room
+  axis-kept : axisAnswer s contexts axis name p room .answer .refused ≡ 1 → axisAnswer s contexts axis name p room .room ≡ room
   unfolding afterCheck
   axis-kept = go (eqb (wholeOf Kind.Data s .reason) 1)
     where
       go : (a : Bool)
-          → pick a (axisWithin s contexts axis name p room) (refusedLeft room (wholeOf Kind.Data s .number) (wholeOf Kind.Data s .entry)) .told .refused ≡ 1
+          → pick a (axisWithin s contexts axis name p room) (refusedLeft room (wholeOf Kind.Data s .number) (wholeOf Kind.Data s .entry)) .answer .refused ≡ 1
           → pick a (axisWithin s contexts axis name p room) (refusedLeft room (wholeOf Kind.Data s .number) (wholeOf Kind.Data s .entry)) .room ≡ room
       go true h = within-kept h
       go false h = refl
 
   pub refused-writes-nothing : (r : Refusal) (x : List ℕ) → AxisPromise s contexts axis name p room (Written.Refused r) x → x ≡ room
-  refused-writes-nothing r x a = a .left ∙ axis-kept (sym (ap (λ (t : Answered). t .refused) (a .said)))
+  refused-writes-nothing r x a = a .left ∙ axis-kept (sym (ap (λ (t : Answered). t .refused) (a .told)))
 
 -- ---- block and block_place
 

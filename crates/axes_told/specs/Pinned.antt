@@ -11,14 +11,14 @@ use lib.ListN.{length, take, drop}
 use Rattle.trees.specs.Tree.{Forest, elem, whole}
 use Rattle.trees.specs.Nodes.{Node, here, under, beside, Ancestor, ancestors, levelOf}
 use Rattle.trees.specs.Ranks.{pre, heldBy}
-use Rattle.trees.specs.Signature.{entriesOf, width}
+use Rattle.trees.specs.Signature.{entriesOf, width, entries}
 use Rattle.trees.specs.NodeRanks.{pre-low, pre-high}
 use Rattle.trees.specs.NodeAncestors.{ancestor-below, below-ancestor, ancestors-sound, ancestors-complete}
 use Rattle.trees.specs.Meanings.{ff-is}
 use Rattle.checking.specs.declared.Kind.{Kind}
 use Rattle.checking.specs.declared.Verdict.{Verdict}
 use Rattle.checking.specs.declared.Refusal.{Refusal}
-use Rattle.checked.specs.Yields.{Words, Yields, entries}
+use Rattle.checked.specs.Yields.{Words, Yields}
 use Rattle.checked.specs.Accepted.{Tree-of, tree-of}
 use Rattle.xpath.specs.OnNodes.{InOrder, Lists}
 use Rattle.xpath.specs.NodeLists.{lists-unique}
@@ -28,7 +28,8 @@ use Rattle.blocks.specs.Level.{LevelPromise}
 use Rattle.blocks.specs.Block.{placeTold, placeRefused, placeWorked, placeWithin, placeAnswer, PlacePromise, partAt, BlockPromise}
 use Rattle.blocks.proofs.Calls.{after-accepted, place-yes, rank-yes}
 use Rattle.axes_told.specs.OneResult.{place-apart, block-at-place, refused-block-empty, told-block-some}
-use Rattle.axes_told.specs.Xpath.{yields-accepted, level-is-ancestors}
+use Rattle.checked.specs.Wholly.{yields-accepted}
+use Rattle.axes_told.specs.Xpath.{level-is-ancestors}
 
 -- ---- the ancestors of an element, in document order
 
@@ -68,7 +69,7 @@ module _ (s : List ℕ) (w : Words s) (y : Yields Kind.Data s) (x : Node (whole 
   told : placeAnswer s (pre x) ≡ placeWorked (4 * (pre x - 1)) (4 * (1 + heldBy x))
   told =
       let q : entriesOf width s .ff (pre x) - pre x ≡ 1 + heldBy x = omega (arith, ff-is (y .tree) (entriesOf width s) (of .holds) x, pre-low x) in
-      after-accepted s placeRefused (placeWithin s (pre x)) Verdict.Accepted (yields-accepted s w y) refl
+      after-accepted s placeRefused (placeWithin s (pre x)) Verdict.Accepted (yields-accepted Kind.Data s y) refl
       ∙ place-yes s (pre x) (rank-yes (entries s) (pre x) (pre-low x) (omega (arith, pre-high x, of .count)))
       ∙ ap (λ (k : ℕ). placeWorked (4 * (pre x - 1)) (4 * k)) q
 

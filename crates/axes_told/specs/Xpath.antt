@@ -1,5 +1,4 @@
 -- The theorems of the axes, the block and the level: on the left a public call's answer, by its promise, on the right a tree and its elements.
---   yields-accepted      the signature of a tree is accepted
 --   axis-is-xpath        an axis call answers the elements of XPath's node set, in document order, each once
 --   level-is-ancestors   a level call answers the number of ancestors
 --   block-is-subtree     a block has the entries of an element and of all below it, and no other
@@ -16,7 +15,7 @@ use Rattle.turns.specs.Turn.{Halt, Turned}
 use Rattle.trees.specs.Tree.{Tree, whole, size}
 use Rattle.trees.specs.Nodes.{Node, Ancestor}
 use Rattle.trees.specs.Ranks.{pre}
-use Rattle.trees.specs.Signature.{entriesOf, width}
+use Rattle.trees.specs.Signature.{entriesOf, width, entries}
 use Rattle.trees.specs.Rows.{Holds}
 use Rattle.trees.specs.NodeRanks.{pre-low, pre-high, pre-injective}
 use Rattle.trees.specs.NodeOrder.{before-pre}
@@ -31,10 +30,9 @@ use Rattle.checking.specs.Rule.{fresh}
 use Rattle.checking.specs.Stops.{Answered, worked, refusedAs, answered, haltTold}
 use Rattle.checking.specs.Turn.{turnOf}
 use Rattle.checking.specs.Whole.{wholeOf, WholePromise}
-use Rattle.checking.proofs.Runs.{whole-stops}
-use Rattle.checked.specs.Yields.{Words, Yields, entries}
+use Rattle.checked.specs.Yields.{Words, Yields}
 use Rattle.checked.specs.Accepted.{Tree-of, tree-of}
-use Rattle.checked.specs.Wholly.{whole-exactly}
+use Rattle.checked.specs.Wholly.{yields-accepted}
 use Rattle.xpath.specs.Select.{upTo, rises, within}
 use Rattle.xpath.specs.SelectLaws.{front}
 use Rattle.xpath.specs.Axes.{onAxis, inAnswer, answerOf}
@@ -46,27 +44,14 @@ use Rattle.blocks.specs.declared.LevelAnswer.{LevelAnswer}
 use Rattle.blocks.specs.declared.PlaceAnswer.{PlaceAnswer}
 use Rattle.blocks.specs.Level.{levelTold, levelWorked, levelRefused, levelWithin, LevelPromise}
 use Rattle.blocks.specs.Block.{Placed, placeTold, placeWorked, placeRefused, placeWithin, blockPlace, PlacePromise}
-use Rattle.marks.specs.Axis.{Left, refusedLeft, axisWithin, axisAnswer, roomFor, answerIn, AxisPromise}
+use Rattle.checking.specs.Room.{Left, refusedLeft, roomFor}
+use Rattle.marks.specs.Axis.{axisWithin, axisAnswer, answerIn, AxisPromise}
 use Rattle.blocks.specs.Checked.{afterCheck}
 use Rattle.axes_told.specs.OneResult.{level-apart, place-apart}
 use Rattle.blocks.proofs.Calls.{rank-yes}
 use native.Mathlib.Nat.{eq-or-lt-of-le}
 use Rattle.blocks.proofs.Calls.{after-accepted, level-yes, place-yes}
 use Rattle.marks.proofs.Calls.{within-fine, fine-low, room-enough, room-short}
-
--- ---- the signature of a tree is accepted
-
-pub yields-accepted : (s : List ℕ) → Words s → Yields Kind.Data s → WholePromise Kind.Data s Verdict.Accepted
-yields-accepted s w y = elim (whole-stops (anyName Kind.Data) (most Kind.Data) s) [
-  | inl e ↦ ap haltTold (sym e)
-  | inr r ↦ absurd (refuse (r .0) (r .1) (r .2))
-]
-  where
-    refuse : (number entry : ℕ) → turnOf Kind.Data s (2 * most Kind.Data + 1) fresh .halt ≡ Halt.refusal number entry → ⊥
-    refuse number entry e =
-        let v = Verdict.Refused (record { number = number; entry = record { 0 = entry } }) in
-        let q : v ≡ Verdict.Accepted = whole-exactly Kind.Data s w v (ap haltTold (sym e)) .complete y in
-        let z : _≡_ {A = ℕ} 0 1 = cc in omega arith
 
 module _ (s : List ℕ) (w : Words s) (y : Yields Kind.Data s) where
   abbrev t : Tree
@@ -108,7 +93,7 @@ module _ (s : List ℕ) (w : Words s) (y : Yields Kind.Data s) where
 
       left : axisAnswer s (map pre xs) axis name p room ≡ roomFor room (answerIn s (map pre xs) axis name p)
       left =
-          after-accepted s (refusedLeft room) (axisWithin s (map pre xs) axis name p room) Verdict.Accepted (yields-accepted s w y) refl
+          after-accepted s (refusedLeft room) (axisWithin s (map pre xs) axis name p room) Verdict.Accepted (yields-accepted Kind.Data s y) refl
           ∙ within-fine s (map pre xs) axis name p room
           (fine-low axis (entries s) (map pre xs) small ∙ simp (ranks-within xs, ranks-rise xs o))
 
@@ -116,12 +101,12 @@ module _ (s : List ℕ) (w : Words s) (y : Yields Kind.Data s) where
       answers l q = record {
         enough = λ g.
             let a = left ∙ ap (roomFor room) q ∙ room-enough room (map pre l) (omega (arith, length-map l pre)) in (
-              h .said ∙ ap (λ (x : Left). x .told) a ∙ ap worked (length-map l pre),
+              h .told ∙ ap (λ (x : Left). x .answer) a ∙ ap worked (length-map l pre),
               h .left ∙ ap (λ (x : Left). x .room) a ∙ ap (λ (k : ℕ). map pre l ++ drop k room) (length-map l pre),
             );
         short = λ g.
             let a = left ∙ ap (roomFor room) q ∙ room-short room (map pre l) (omega (arith, length-map l pre)) in
-            (h .said ∙ ap (λ (x : Left). x .told) a, h .left ∙ ap (λ (x : Left). x .room) a);
+            (h .told ∙ ap (λ (x : Left). x .answer) a, h .left ∙ ap (λ (x : Left). x .room) a);
       }
 
   -- ---- the level
@@ -143,7 +128,7 @@ module _ (s : List ℕ) (w : Words s) (y : Yields Kind.Data s) where
     where
       told : afterCheck s levelRefused (levelWithin s (pre x)) ≡ levelWorked (Axes.levelOf (entries s) (entriesOf width s .fa) (pre x))
       told =
-          after-accepted s levelRefused (levelWithin s (pre x)) Verdict.Accepted (yields-accepted s w y) refl
+          after-accepted s levelRefused (levelWithin s (pre x)) Verdict.Accepted (yields-accepted Kind.Data s y) refl
           ∙ level-yes s (pre x) (rank-yes (entries s) (pre x) (pre-low x) (omega (arith, pre-high x, of .count)))
 
       counted : (l : List (Node (whole t))) → upTo (size (whole t)) (λ j. onAxis 5 (size (whole t)) (entriesOf width s .fa) (pre x) j) ≡ map pre l
@@ -166,7 +151,7 @@ module _ (s : List ℕ) (w : Words s) (y : Yields Kind.Data s) where
     where
       told : afterCheck s placeRefused (placeWithin s (pre x)) ≡ blockPlace s (pre x)
       told =
-          after-accepted s placeRefused (placeWithin s (pre x)) Verdict.Accepted (yields-accepted s w y) refl
+          after-accepted s placeRefused (placeWithin s (pre x)) Verdict.Accepted (yields-accepted Kind.Data s y) refl
           ∙ place-yes s (pre x) (rank-yes (entries s) (pre x) (pre-low x) (omega (arith, pre-high x, of .count)))
 
       inner : (z : Node (whole t)) → EntryIn z (4 * (pre x - 1)) (4 * (entriesOf width s .ff (pre x) - pre x)) → (x ≡ z) ⊎ Ancestor x z

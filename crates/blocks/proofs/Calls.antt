@@ -15,7 +15,7 @@ use lib.Dec.{leb, eqb}
 use borrow.Author.Tests.{le-leb, lt-leb, leb-true}
 use Rattle.turns.specs.Pick.{pick}
 use Rattle.trees.specs.Tree.{whole}
-use Rattle.trees.specs.Signature.{entriesOf, width}
+use Rattle.trees.specs.Signature.{entriesOf, width, entries}
 use Rattle.trees.specs.Listed.{signature-length}
 use Rattle.checking.specs.declared.Kind.{Kind}
 use Rattle.checking.specs.declared.Verdict.{Verdict}
@@ -26,7 +26,6 @@ use Rattle.checking.specs.Rule.{fresh}
 use Rattle.checking.specs.Turn.{turnOf}
 use Rattle.checking.specs.Stops.{Told, verdictTold, haltTold}
 use Rattle.checking.specs.Whole.{wholeOf, WholePromise}
-use Rattle.checked.specs.Yields.{entries}
 use Rattle.checked.specs.Wholly.{accepted-tree}
 use Rattle.xpath.specs.Axes.{levelOf}
 use Rattle.blocks.specs.Checked.{afterCheck, isRank, Ready}

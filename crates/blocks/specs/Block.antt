@@ -10,8 +10,7 @@ use mathlib.Core.Path.{_≡_}
 use mathlib.Core.List.{List}
 use lib.ListN.{take, drop}
 use Rattle.turns.specs.Pick.{pick}
-use Rattle.trees.specs.Signature.{entriesOf, width}
-use Rattle.checked.specs.Yields.{entries}
+use Rattle.trees.specs.Signature.{entriesOf, width, entries}
 use Rattle.blocks.specs.declared.PlaceAnswer.{PlaceAnswer}
 use Rattle.blocks.specs.Checked.{afterCheck, isRank}
 
@@ -27,6 +26,7 @@ pub record Placed : Type 0 where
 abbrev pub placeWorked : ℕ → ℕ → Placed
 placeWorked first count = record { refused = 0; number = 0; first = first; count = count; entry = 0 }
 
+-- "A refused single call returns its number and 0 for every other number [..]; 3 to 6 from the check also name the entry."
 abbrev pub placeRefused : ℕ → ℕ → Placed
 placeRefused number entry = record { refused = 1; number = number; first = 0; count = 0; entry = entry }
 
@@ -47,6 +47,7 @@ placeWithin s i = pick (isRank (entries s) i) (blockPlace s i) (placeRefused 8 0
 abbrev pub placeAnswer : List ℕ → ℕ → Placed
 placeAnswer s i = afterCheck s placeRefused (placeWithin s i)
 
+-- the promise of the call for a block's place
 abbrev pub PlacePromise : List ℕ → ℕ → PlaceAnswer → Type 0
 PlacePromise s i r = placeTold r ≡ placeAnswer s i
 

@@ -7,8 +7,7 @@ use Prim.Native.Nat.{ℕ}
 use mathlib.Core.Path.{_≡_}
 use mathlib.Core.List.{List}
 use Rattle.turns.specs.Pick.{pick}
-use Rattle.trees.specs.Signature.{entriesOf, width}
-use Rattle.checked.specs.Yields.{entries}
+use Rattle.trees.specs.Signature.{entriesOf, width, entries}
 use Rattle.xpath.specs.Axes.{levelOf}
 use Rattle.blocks.specs.declared.LevelAnswer.{LevelAnswer}
 use Rattle.blocks.specs.Checked.{afterCheck, isRank}
@@ -24,6 +23,7 @@ pub record Leveled : Type 0 where
 abbrev pub levelWorked : ℕ → Leveled
 levelWorked l = record { refused = 0; number = 0; level = l; entry = 0 }
 
+-- "A refused single call returns its number and 0 for every other number [..]; 3 to 6 from the check also name the entry."
 abbrev pub levelRefused : ℕ → ℕ → Leveled
 levelRefused number entry = record { refused = 1; number = number; level = 0; entry = entry }
 
@@ -41,5 +41,6 @@ levelWithin s i =
 abbrev pub levelAnswer : List ℕ → ℕ → Leveled
 levelAnswer s i = afterCheck s levelRefused (levelWithin s i)
 
+-- the promise of the level call
 abbrev pub LevelPromise : List ℕ → ℕ → LevelAnswer → Type 0
 LevelPromise s i r = levelTold r ≡ levelAnswer s i

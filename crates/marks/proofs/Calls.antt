@@ -1,6 +1,5 @@
 -- Which case of an axis call's answer holds.
 --   fine-…            which arguments are not refused
---   named-…           which names pass
 --   within-…, room-…  which case of an answer holds
 --   leaves-as, refused-leaves   what an equal answer leaves; what a refusal leaves
 --   short-leaves, fits-leaves   what is left where the marked ranks are too many for the room, and where they fit
@@ -13,14 +12,15 @@ use lib.ListN.{length}
 use lib.Dec.{leb, eqb}
 use borrow.Author.Tests.{le-leb, lt-leb, leb-true, eq-eqb, ne-eqb}
 use Rattle.turns.specs.Pick.{pick}
+use Rattle.trees.specs.Signature.{entries}
+use Rattle.trees.specs.Names.{passes}
 use Rattle.checking.specs.declared.Refusal.{Refusal}
 use Rattle.checking.specs.declared.Written.{Written}
 use Rattle.checking.specs.Stops.{worked, refusedAs}
-use Rattle.checked.specs.Yields.{entries}
 use Rattle.xpath.specs.Select.{rises, within}
 use Rattle.xpath.specs.SelectLaws.{front}
-use Rattle.xpath.specs.Axes.{passes}
-use Rattle.marks.specs.Axis.{argumentsFine, axisWithin, roomFor, writtenLeft, refusedLeft, answerIn, Left, Leaves}
+use Rattle.checking.specs.Room.{roomFor, writtenLeft, refusedLeft, Left, Leaves}
+use Rattle.marks.specs.Axis.{argumentsFine, axisWithin, answerIn}
 
 -- ---- arguments
 
@@ -76,7 +76,7 @@ leaves-as x y r after q h = rw q h
 
 pub refused-leaves : (room : List ℕ) (r : Refusal) (number : ℕ) → r .number ≡ number → r .entry .0 ≡ 0
     → Leaves (refusedLeft room number 0) (Written.Refused r) room
-refused-leaves room r number p q = record { said = λ i. refusedAs (p i) (q i); left = refl }
+refused-leaves room r number p q = record { told = λ i. refusedAs (p i) (q i); left = refl }
 
 -- ---- the ranks of a list written
 
@@ -85,19 +85,4 @@ module _ (room answer : List ℕ) (count : ℕ) (q : count ≡ length answer) wh
   short-leaves l r a b = leaves-as _ _ _ _ (room-short room answer (omega arith)) (refused-leaves room r 10 a b)
 
   pub fits-leaves : count ≤ length room → (after : List ℕ) → after ≡ front answer room → Leaves (roomFor room answer) (Written.Length count) after
-  fits-leaves l after e = leaves-as _ _ _ _ (room-enough room answer (omega arith)) (record { said = ap worked q; left = e })
-
--- ---- names
-
-module _ (test a : ℕ) where
-  pub named-any : test ≡ 0 → passes test a ≡ true
-  unfolding passes
-  named-any h = simp (eq-eqb _ _ h)
-
-  pub named-yes : test ≡ a → passes test a ≡ true
-  unfolding passes
-  named-yes h = simp (eq-eqb _ _ h, or-true)
-
-  pub named-no : (test ≡ 0 → ⊥) → (test ≡ a → ⊥) → passes test a ≡ false
-  unfolding passes
-  named-no h g = simp (ne-eqb _ _ h, ne-eqb _ _ g)
+  fits-leaves l after e = leaves-as _ _ _ _ (room-enough room answer (omega arith)) (record { told = ap worked q; left = e })

@@ -8,11 +8,12 @@ ghost use mathlib.Core.Path.{_≡_};
 ghost use mathlib.Core.Bool.{true, _&&_};
 ghost use Prim.Native.Nat.{_≤_};
 ghost use lib.ListN.{length};
+ghost use Rattle.trees.specs.Names.{passes};
 ghost use Rattle.xpath.specs.Select.{upTo, rises, within};
 ghost use Rattle.xpath.specs.SelectLaws.{front};
-ghost use Rattle.xpath.specs.Axes.{passes};
 ghost use Rattle.trees.specs.Signature.{entriesOf, width};
-ghost use Rattle.marks.specs.Axis.{argumentsFine, roomFor, Leaves};
+ghost use Rattle.checking.specs.Room.{roomFor, Leaves};
+ghost use Rattle.marks.specs.Axis.{argumentsFine};
 ghost use Rattle.marks.specs.Marks.{marked, lesser};
 
 // Whether the contexts are ranks of n entries, strictly ascending.

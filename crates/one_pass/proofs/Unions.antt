@@ -12,14 +12,15 @@ use mathlib.Core.Bool.{Bool, true, false, _&&_, _||_, and-false, or-true, or-fal
 use native.Mathlib.Omega.{arith}
 use lib.ListN.{length, getD}
 use Rattle.trees.specs.Signature.{entriesOf, width}
+use Rattle.trees.specs.Names.{passes}
 use Rattle.checking.specs.declared.Written.{Written}
 use Rattle.xpath.specs.Select.{upTo, within}
 use Rattle.xpath.specs.SelectLaws.{up-same}
 use Rattle.xpath.specs.Rising.{within-at}
-use Rattle.xpath.specs.Axes.{passes, inAnswer, answerOf}
+use Rattle.xpath.specs.Axes.{inAnswer, answerOf}
 use Rattle.xpath.specs.Spread.{isContext, spreadOf}
 use Rattle.xpath.specs.SpreadUnion.{spread-same, spread-self, spread-below-or-self, spread-above-or-self, spread-answer}
-use Rattle.marks.specs.Axis.{roomFor, Leaves}
+use Rattle.checking.specs.Room.{roomFor, Leaves}
 use Rattle.marks.specs.Marks.{marked, Marks, lesser}
 use Rattle.marks.proofs.Marking.{lesser-first}
 

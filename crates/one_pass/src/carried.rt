@@ -70,7 +70,8 @@ pub fn mark_following(sig: &[u16], n: u16, from: &[u8; 4097], found: &mut [u8; 4
         j += 1;
         let at = j as usize;
         let before = past;
-        past = lowered(from[at], before, first_past(sig, j));
+        let own = first_past(sig, j);
+        past = lowered(from[at], before, own);
         if before <= j {
             found[at] = 1;
         }

@@ -4,13 +4,14 @@ ghost use mathlib.Core.Path.{_≡_};
 ghost use mathlib.Core.Bool.{true, false, _&&_, _||_};
 ghost use Prim.Native.Nat.{_≤_};
 ghost use lib.ListN.{length};
-ghost use Rattle.trees.specs.Signature.{entriesOf, width};
-ghost use Rattle.checked.specs.Yields.{entries};
+ghost use Rattle.trees.specs.Signature.{entriesOf, width, entries};
+ghost use Rattle.trees.specs.Names.{passes};
 ghost use Rattle.xpath.specs.Select.{within};
-ghost use Rattle.xpath.specs.Axes.{passes, inAnswer, answerOf};
+ghost use Rattle.xpath.specs.Axes.{inAnswer, answerOf};
 ghost use Rattle.xpath.specs.Spread.{isContext, spreadOf};
 ghost use Rattle.blocks.specs.Checked.{Ready};
-ghost use Rattle.marks.specs.Axis.{roomFor, axisWithin, Leaves, AxisPromise};
+ghost use Rattle.checking.specs.Room.{roomFor, Leaves};
+ghost use Rattle.marks.specs.Axis.{axisWithin, AxisPromise};
 ghost use Rattle.marks.specs.Marks.{marked, Marks};
 
 mod carried;

@@ -9,15 +9,14 @@ use blocks::PlaceAnswer;
 use checking::PreRank;
 use libc::STDOUT_FILENO;
 
-// The level, the place and the length of the block of one entry.
-pub fn entry_told(sig: &[u16], i: u16) {
-    number(wide(i));
-    let level = blocks::level(sig, PreRank(i));
+fn level_told(level: LevelAnswer) {
     match level {
         LevelAnswer::Level(l) => number(wide(l)),
         LevelAnswer::Refused(refusal) => refused(refusal),
     }
-    let place = blocks::block_place(sig, PreRank(i));
+}
+
+fn place_told(place: PlaceAnswer) {
     match place {
         PlaceAnswer::Numbers(first, count) => {
             number(first as u64);
@@ -25,6 +24,13 @@ pub fn entry_told(sig: &[u16], i: u16) {
         }
         PlaceAnswer::Refused(refusal) => refused(refusal),
     }
+}
+
+// The level, the place and the length of the block of one entry.
+pub fn entry_told(sig: &[u16], i: u16) {
+    number(wide(i));
+    level_told(blocks::level(sig, PreRank(i)));
+    place_told(blocks::block_place(sig, PreRank(i)));
     let block = blocks::block(sig, PreRank(i));
     number(block.len() as u64);
     stroke();

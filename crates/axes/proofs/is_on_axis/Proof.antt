@@ -3,7 +3,6 @@ use mathlib.Core.Path.{sym, _∙_}
 use Rattle.axes.proofs.Cases.{axis-self, axis-child, axis-descendant, axis-descendant-or-self, axis-parent, axis-ancestor}
 use Rattle.axes.proofs.Cases.{axis-ancestor-or-self, axis-following, axis-preceding, axis-following-sibling, axis-preceding-sibling}
 use Rattle.one_pass.proofs.Numbered.{axis-last}
-use native.Mathlib.Omega.{arith}
 use borrow.Author.Needs.{needs}
 use Rattle.axes.proofs.is_on_axis.Statement.{statement}
 use Rattle.axes.proofs.is_on_axis.Tie as tie
@@ -42,34 +41,34 @@ is-sibling-before-requires-2 : tie.Need-is-sibling-before-requires-2
 is-sibling-before-requires-2 c κs = search needs
 
 returns : tie.Need-returns
-returns c = c .is-same .ensures ∙ sym (axis-self _ _ _ _ _ (omega arith))
+returns c = c .is-same .ensures ∙ sym (axis-self _ _ _ _ _ (c .before .match .keys1))
 
 returns-2 : tie.Need-returns-2
-returns-2 c = c .is-parent .ensures ∙ sym (axis-child _ _ _ _ _ (omega arith))
+returns-2 c = c .is-parent .ensures ∙ sym (axis-child _ _ _ _ _ (c .before .match .keys2))
 
 returns-3 : tie.Need-returns-3
-returns-3 c = c .is-ancestor .ensures ∙ sym (axis-descendant _ _ _ _ _ (omega arith))
+returns-3 c = c .is-ancestor .ensures ∙ sym (axis-descendant _ _ _ _ _ (c .before .match .keys3))
 
 returns-4 : tie.Need-returns-4
-returns-4 c = c .is-ancestor-or-self .ensures ∙ sym (axis-descendant-or-self _ _ _ _ _ (omega arith))
+returns-4 c = c .is-ancestor-or-self .ensures ∙ sym (axis-descendant-or-self _ _ _ _ _ (c .before .match .keys4))
 
 returns-5 : tie.Need-returns-5
-returns-5 c = c .is-parent2 .ensures ∙ sym (axis-parent _ _ _ _ _ (omega arith))
+returns-5 c = c .is-parent2 .ensures ∙ sym (axis-parent _ _ _ _ _ (c .before .match .keys5))
 
 returns-6 : tie.Need-returns-6
-returns-6 c = c .is-ancestor2 .ensures ∙ sym (axis-ancestor _ _ _ _ _ (omega arith))
+returns-6 c = c .is-ancestor2 .ensures ∙ sym (axis-ancestor _ _ _ _ _ (c .before .match .keys6))
 
 returns-7 : tie.Need-returns-7
-returns-7 c = c .is-ancestor-or-self2 .ensures ∙ sym (axis-ancestor-or-self _ _ _ _ _ (omega arith))
+returns-7 c = c .is-ancestor-or-self2 .ensures ∙ sym (axis-ancestor-or-self _ _ _ _ _ (c .before .match .keys7))
 
 returns-8 : tie.Need-returns-8
-returns-8 c = c .is-wholly-before .ensures ∙ sym (axis-following _ _ _ _ _ (omega arith))
+returns-8 c = c .is-wholly-before .ensures ∙ sym (axis-following _ _ _ _ _ (c .before .match .keys8))
 
 returns-9 : tie.Need-returns-9
-returns-9 c = c .is-wholly-before2 .ensures ∙ sym (axis-preceding _ _ _ _ _ (omega arith))
+returns-9 c = c .is-wholly-before2 .ensures ∙ sym (axis-preceding _ _ _ _ _ (c .before .match .keys9))
 
 returns-10 : tie.Need-returns-10
-returns-10 c = c .is-sibling-before .ensures ∙ sym (axis-following-sibling _ _ _ _ _ (omega arith))
+returns-10 c = c .is-sibling-before .ensures ∙ sym (axis-following-sibling _ _ _ _ _ (c .before .match .keys10))
 
 returns-11 : tie.Need-returns-11
 returns-11 c = c .is-sibling-before2 .ensures ∙ sym (axis-preceding-sibling _ _ _ _ _ (axis-last _ (c .before .before .before .pre .1) (c .before .match .rest)))

@@ -20,7 +20,7 @@ abbrev μ-loop : tie.MeasureT-loop
 loop-holds : tie.Need-loop-holds Inv-loop μ-loop
 loop-holds c =
     let a = c .before .before .args in
-    ((omega arith), each-none (a .n) (λ x. kept (a .axis) (a .p) (chosen (a .axis) (a .n) (entriesOf width (a .sig .now) .fa) (entriesOf width (a .sig .now) .name) (a .test) x)) (a .contexts .now) _ (c .before .before .pre .3))
+    ((omega arith), each-none (a .n) (λ x. kept (a .axis) (a .p) (chosen (a .axis) (a .n) (entriesOf width (a .sig .now) .fa) (entriesOf width (a .sig .now) .name) (a .test) x)) (a .contexts .now) _ (c .before .before .pre .4))
 
 mul-c : tie.Need-mul-c Inv-loop μ-loop
 mul-c c = search needs
@@ -31,8 +31,8 @@ shared-slice-read-c c = search needs
 mark-context-requires : tie.Need-mark-context-requires Inv-loop μ-loop
 mark-context-requires c κs =
     let a = c .before .before .before .before .before .before .args in
-    let r = within-at (a .n) (a .contexts .now) (c .before .before .before .before .before .before .pre .2) (c .before .before .before .loop .k) (omega arith) in
-    (c .before .before .before .before .before .before .pre .0, c .before .before .before .before .before .before .pre .1, r .low, r .high, c .before .before .before .loop .inv .1 .long)
+    let r = within-at (a .n) (a .contexts .now) (c .before .before .before .before .before .before .pre .3) (c .before .before .before .loop .k) (omega arith) in
+    (c .before .before .before .before .before .before .pre .0, c .before .before .before .before .before .before .pre .1, c .before .before .before .before .before .before .pre .2, r .low, r .high, c .before .before .before .loop .inv .1 .long)
 
 add-k : tie.Need-add-k Inv-loop μ-loop
 add-k c = search needs

@@ -8,7 +8,7 @@ use Rattle.axes.proofs.select.Tie as tie
 mark-each-requires : tie.Need-mark-each-requires
 mark-each-requires c κs =
     let p = c .before .before .before .before .pre in
-    (p .0, p .1, p .2, marks-none _ (p .0 .small))
+    (p .0, p .1, p .2, p .3, marks-none _ (p .0 .small))
 
 write-marked-requires : tie.Need-write-marked-requires
 write-marked-requires c κs = search needs

@@ -24,7 +24,7 @@ returns : tie.Need-returns
 returns c = leaves-as _ _ _ _ (within-fine _ _ _ _ _ _ (sym (c .before .before .before .before .before .is-fine .ensures) ∙ c .before .before .before .before .if1 .taken)) (c .before .before .select .ensures)
 
 returns-2 : tie.Need-returns-2
-returns-2 c = leaves-as _ _ _ _ (within-bad _ _ _ _ _ _ (sym (c .before .is-fine .ensures) ∙ c .if1 .left)) (record { said = refl; left = refl })
+returns-2 c = leaves-as _ _ _ _ (within-bad _ _ _ _ _ _ (sym (c .before .is-fine .ensures) ∙ c .if1 .left)) (record { told = refl; left = refl })
 
 pub axis-within-spec : {M : Type 1} → statement M
 axis-within-spec =

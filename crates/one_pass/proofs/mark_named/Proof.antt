@@ -5,7 +5,7 @@ use lib.ListN.{length, length-set}
 use lib.Dec.{leb}
 use mathlib.Core.Bool.{_&&_}
 use Rattle.trees.specs.Signature.{entriesOf, width}
-use Rattle.xpath.specs.Axes.{passes}
+use Rattle.trees.specs.Names.{passes}
 use Rattle.marks.specs.Marks.{marked}
 use Rattle.marks.proofs.Marking.{Over, mark-yes, mark-no, part-none, part-hit, part-miss, part-done}
 use Rattle.one_pass.proofs.Unions.{both-yes, first-no, second-no}

@@ -30,11 +30,11 @@ add-j c = search needs
 cast-at : tie.Need-cast-at Inv-loop μ-loop
 cast-at c = search needs
 
-element-copy-out-lowered : tie.Need-element-copy-out-lowered Inv-loop μ-loop
-element-copy-out-lowered c = search needs
-
 first-past-requires : tie.Need-first-past-requires Inv-loop μ-loop
 first-past-requires c κs = search needs
+
+element-copy-out-lowered : tie.Need-element-copy-out-lowered Inv-loop μ-loop
+element-copy-out-lowered c = search needs
 
 lowered-requires : tie.Need-lowered-requires Inv-loop μ-loop
 lowered-requires c κs = search needs
@@ -50,7 +50,7 @@ loop-again c =
     let l = c .before .before .before .before .before .loop in
     let a = c .before .before .before .before .before .before .before .args in
     let p = c .before .before .before .before .before .before .before .pre in
-    let x = lowered-up (a .from .now) (l .j + 1) (l .past) _ _ (entriesOf width (a .sig .now) .ff) (omega arith) (c .before .before .first-past .ensures) (c .before .lowered .ensures) (l .inv .2) in
+    let x = lowered-up (a .from .now) (l .j + 1) (l .past) _ _ (entriesOf width (a .sig .now) .ff) (omega arith) (c .before .before .before .first-past .ensures) (c .before .lowered .ensures) (l .inv .2) in
     let k = following-yes (a .sig .now) (a .n) (p .0) (a .from .now) (l .j + 1) (omega arith) (omega arith) (l .past) (l .inv .2) (omega (arith, c .if1 .taken)) in
     ((omega arith), simp length-set (l .inv .1), x, part-hit _ _ _ _ _ (l .inv .3) k (omega (arith, l .inv .1, p .0 .small)))
 
@@ -62,7 +62,7 @@ loop-again-2 c =
     let l = c .before .before .before .before .before .loop in
     let a = c .before .before .before .before .before .before .before .args in
     let p = c .before .before .before .before .before .before .before .pre in
-    let x = lowered-up (a .from .now) (l .j + 1) (l .past) _ _ (entriesOf width (a .sig .now) .ff) (omega arith) (c .before .before .first-past .ensures) (c .before .lowered .ensures) (l .inv .2) in
+    let x = lowered-up (a .from .now) (l .j + 1) (l .past) _ _ (entriesOf width (a .sig .now) .ff) (omega arith) (c .before .before .before .first-past .ensures) (c .before .lowered .ensures) (l .inv .2) in
     let k = following-no (a .sig .now) (a .n) (p .0) (a .from .now) (l .j + 1) (omega arith) (omega arith) (l .past) (l .inv .2) (omega (arith, c .if1 .left)) in
     ((omega arith), l .inv .1, x, part-miss _ _ _ _ _ (l .inv .3) k)
 
@@ -78,8 +78,8 @@ mark-following-spec =
     loop-holds
     add-j
     cast-at
-    element-copy-out-lowered
     first-past-requires
+    element-copy-out-lowered
     lowered-requires
     element-write-found
     loop-less

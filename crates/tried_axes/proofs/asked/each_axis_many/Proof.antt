@@ -1,21 +1,22 @@
--- The loop goes through a range.
-use native.Mathlib.Omega.{arith}
 use borrow.Author.Needs.{needs}
 use Prim.Native.Nat.{_-_, _≤_}
-use Rattle.tried_axes.proofs.each_axis_many.Statement.{statement}
-use Rattle.tried_axes.proofs.each_axis_many.Tie as tie
+use Rattle.tried_axes.proofs.asked.each_axis_many.Statement.{statement}
+use Rattle.tried_axes.proofs.asked.each_axis_many.Tie as tie
 
 abbrev Inv-loop : tie.InvT-loop
-Inv-loop sig axis₀ axis = axis ≤ 11
+Inv-loop sig axis₀ t3 axis = axis ≤ 11
 
 abbrev μ-loop : tie.MeasureT-loop
-μ-loop sig axis₀ axis = 11 - axis
+μ-loop sig axis₀ t3 axis = 11 - axis
 
 loop-holds : tie.Need-loop-holds Inv-loop μ-loop
 loop-holds c = search needs
 
-many-contexts-requires : tie.Need-many-contexts-requires Inv-loop μ-loop
-many-contexts-requires c κs = search needs
+slice-aggregate-each-contexts : tie.Need-slice-aggregate-each-contexts Inv-loop μ-loop
+slice-aggregate-each-contexts c = search needs
+
+each-contexts-requires : tie.Need-each-contexts-requires Inv-loop μ-loop
+each-contexts-requires c κs = search needs
 
 add-axis : tie.Need-add-axis Inv-loop μ-loop
 add-axis c = search needs
@@ -36,7 +37,8 @@ each-axis-many-spec =
     Inv-loop
     μ-loop
     loop-holds
-    many-contexts-requires
+    slice-aggregate-each-contexts
+    each-contexts-requires
     add-axis
     loop-less
     loop-again
