@@ -1,17 +1,21 @@
 // Tries the ordered call at the edges that document 01 does not star, and prints what it says; what is printed is compared with the file stdout.
 // An answer is a line of its ranks; `none` ends a list; a refusal is a line with its number and entry; a call's room is printed where it matters.
+mod lines;
 mod made;
 mod printed;
 
 use checking::Written;
 use libc::STDOUT_FILENO;
-use made::before_last;
+use lines::digit;
+use lines::label;
+use lines::line_end;
 use made::broad_tree;
 use made::broad_twig;
 use made::chain_twig;
 use made::five;
 use made::front;
 use made::long_chain;
+use made::near_end;
 use made::under;
 use printed::asked;
 use printed::line;
@@ -51,8 +55,7 @@ fn one_more(sig: &[u16], twig: &[u16], tuple: [u16; 16]) -> Given {
 }
 
 // Every answer from zeros on, each handed back; no tree tried here has 100.
-fn listed(label: &[u8], sig: &[u16], twig: &[u16]) {
-    line(label);
+fn listed(sig: &[u16], twig: &[u16]) {
     let mut tuple = [0u16; 16];
     for i in 0..100u16 {
         let given = one_more(sig, twig, tuple);
@@ -65,23 +68,31 @@ fn listed(label: &[u8], sig: &[u16], twig: &[u16]) {
     line(b"more");
 }
 
-// What follows a tuple of two numbers.
-fn after(sig: &[u16], twig: &[u16], a: u16, b: u16) {
-    let tuple = [a, b];
-    let mut room = [0u16; 2];
-    let answer = ordered::ordered_next(sig, twig, &tuple, &mut room);
+fn heading(a: u16, b: u16) {
     number(wide(a));
     number(wide(b));
     io::write_all(STDOUT_FILENO, b" :");
+}
+
+fn followed(answer: Written, room: &[u16]) {
     match answer {
         Written::Length(len) => {
-            numbers(&room, len);
+            numbers(room, len);
         }
         Written::Refused(refusal) => {
             number(wide(refusal.number));
             io::write_all(STDOUT_FILENO, b" refused\n");
         }
     }
+}
+
+// What follows a tuple of two numbers.
+fn after(sig: &[u16], twig: &[u16], a: u16, b: u16) {
+    let tuple = [a, b];
+    let mut room = [0u16; 2];
+    let answer = ordered::ordered_next(sig, twig, &tuple, &mut room);
+    heading(a, b);
+    followed(answer, &room);
 }
 
 // What follows every tuple of two numbers up to 6.
@@ -115,27 +126,8 @@ fn chains_from_zeros() {
 }
 
 fn chains_near_the_end() {
-    let last = before_last();
-    on_chain(b"chain, before the last", 1, &last);
-    let end = [
-        4081u16,
-        4082,
-        4083,
-        4084,
-        4085,
-        4086,
-        4087,
-        4088,
-        4089,
-        4090,
-        4091,
-        4092,
-        4093,
-        4094,
-        4095,
-        4096,
-    ];
-    on_chain(b"chain, the last", 1, &end);
+    on_chain(b"chain, before the last", 1, &near_end(4095));
+    on_chain(b"chain, the last", 1, &near_end(4096));
 }
 
 fn chain_carried_over() {
@@ -146,49 +138,56 @@ fn chain_carried_over() {
 fn broads() {
     let zeros = [0u16; 16];
     on_broad(b"broad", 1, &zeros);
-    let last = before_last();
-    on_broad(b"broad, no answer given", 1, &last);
+    on_broad(b"broad, no answer given", 1, &near_end(4095));
     on_broad(b"broad, last name missing", 2, &zeros);
 }
 
-fn on_five(label: &[u8], twig: &[u16]) {
-    let sig = five();
-    listed(label, &sig, twig);
+// Sixteen numbers of a line from the third on.
+fn sixteen_numbers(line: &[u8]) -> [u16; 16] {
+    let mut twig = [0u16; 16];
+    for i in 0..16usize {
+        twig[i] = digit(line, 2 + i);
+    }
+    twig
 }
 
-fn on_tarts(label: &[u8], twig: &[u16]) {
-    let sig = [1u16, 4, 5, 0, 2, 2, 4, 1, 3, 1, 4, 2, 4, 3, 5, 1];
-    listed(label, &sig, twig);
+// A twig asked for in Five, in the tarts or in one element.
+fn listed_in(tree: u16, twig: &[u16]) {
+    if tree == 0 {
+        listed(&five(), twig);
+        return;
+    }
+    if tree == 1 {
+        listed(&[1u16, 4, 5, 0, 2, 2, 4, 1, 3, 1, 4, 2, 4, 3, 5, 1], twig);
+        return;
+    }
+    listed(&[1u16, 1, 2, 0], twig);
 }
 
-fn small_on_five() {
-    let one = [1u16, 1, 2, 0];
-    on_five(b"five, 1", &one);
-    let below = under();
-    on_five(b"five, 1(1)", &below);
-    let any_below = [0u16, 2, 3, 0, 0, 1, 3, 1];
-    on_five(b"five, any(any)", &any_below);
+// A line has the tree, the length and the numbers of the twig, and what is printed first.
+fn listed_line(text: &[u8]) {
+    label(text, 18);
+    io::write_all(STDOUT_FILENO, b"\n");
+    let twig = sixteen_numbers(text);
+    listed_in(digit(text, 0), front(&twig, digit(text, 1) as usize));
 }
 
-fn wide_on_five() {
-    let three = [1u16, 3, 4, 0, 1, 1, 3, 1, 1, 2, 4, 1];
-    on_five(b"five, 1(1,1)", &three);
-    let star = [1u16, 4, 5, 0, 1, 1, 3, 1, 1, 2, 4, 1, 1, 3, 5, 1];
-    on_five(b"five, 1(1,1,1)", &star);
+fn each_listed(lines: &[u8]) {
+    let mut from = 0;
+    while from < lines.len() {
+        let to = line_end(lines, from);
+        listed_line(&lines[from..to]);
+        from = to + 1;
+    }
 }
 
-fn all_on_tarts() {
-    let beside = [2u16, 3, 4, 0, 3, 1, 3, 1, 4, 2, 4, 1];
-    on_tarts(b"tarts, 2(3,4)", &beside);
-    let menu = [1u16, 3, 4, 0, 2, 1, 3, 1, 4, 2, 4, 1];
-    on_tarts(b"tarts, 1(2,4)", &menu);
-}
-
-fn on_one() {
-    let one = [1u16, 1, 2, 0];
-    listed(b"one, 1", &one, &one);
-    let below = under();
-    listed(b"one, 1(1)", &one, &below);
+fn lists() {
+    each_listed(
+        b"041120000000000000five, 1\n081230113100000000five, 1(1)\n080230013100000000five, any(any)\n",
+    );
+    each_listed(b"0<1340113112410000five, 1(1,1)\n0@1450113112411351five, 1(1,1,1)\n");
+    each_listed(b"1<2340313142410000tarts, 2(3,4)\n1<1340213142410000tarts, 1(2,4)\n");
+    each_listed(b"241120000000000000one, 1\n281230113100000000one, 1(1)\n");
 }
 
 fn pairs_on_five() {
@@ -274,10 +273,7 @@ fn empty_refused() {
 }
 
 fn main() {
-    small_on_five();
-    wide_on_five();
-    all_on_tarts();
-    on_one();
+    lists();
     pairs_on_five();
     rooms();
     no_room();

@@ -25,10 +25,7 @@ pub fn numbers(room: &[u16], len: usize) {
     io::write_all(STDOUT_FILENO, b"\n");
 }
 
-// What one call says, with the room that it leaves.
-pub fn asked(label: &[u8], sig: &[u16], twig: &[u16], tuple: &[u16], room: &mut [u16]) {
-    io::write_all(STDOUT_FILENO, label);
-    let answer = ordered::ordered_next(sig, twig, tuple, &mut *room);
+fn answered(answer: Written) {
     match answer {
         Written::Length(len) => {
             io::write_all(STDOUT_FILENO, b" length");
@@ -40,6 +37,12 @@ pub fn asked(label: &[u8], sig: &[u16], twig: &[u16], tuple: &[u16], room: &mut 
             number(wide(refusal.entry.0));
         }
     }
+}
+
+// What one call says, with the room that it leaves.
+pub fn asked(label: &[u8], sig: &[u16], twig: &[u16], tuple: &[u16], room: &mut [u16]) {
+    io::write_all(STDOUT_FILENO, label);
+    answered(ordered::ordered_next(sig, twig, tuple, &mut *room));
     io::write_all(STDOUT_FILENO, b" room");
     let len = room.len();
     numbers(&*room, len);

@@ -6,13 +6,10 @@ use Rattle.tried_ordered.proofs.listed.Statement.{statement}
 use Rattle.tried_ordered.proofs.listed.Tie as tie
 
 abbrev Inv-loop : tie.InvT-loop
-Inv-loop label sig twig tuple₀ i₀ t8 tuple i = i ≤ 100
+Inv-loop sig twig tuple₀ i₀ t7 tuple i = i ≤ 100
 
 abbrev μ-loop : tie.MeasureT-loop
-μ-loop label sig twig tuple₀ i₀ t8 tuple i = 100 - i
-
-line-requires : tie.Need-line-requires Inv-loop μ-loop
-line-requires c κs = search needs
+μ-loop sig twig tuple₀ i₀ t7 tuple i = 100 - i
 
 loop-holds : tie.Need-loop-holds Inv-loop μ-loop
 loop-holds c = search needs
@@ -35,8 +32,8 @@ loop-again c = search needs
 slice-aggregate-line : tie.Need-slice-aggregate-line Inv-loop μ-loop
 slice-aggregate-line c = search needs
 
-line-requires-2 : tie.Need-line-requires-2 Inv-loop μ-loop
-line-requires-2 c κs = search needs
+line-requires : tie.Need-line-requires Inv-loop μ-loop
+line-requires c κs = search needs
 
 returns-2 : tie.Need-returns-2 Inv-loop μ-loop
 returns-2 c = search needs
@@ -47,7 +44,6 @@ listed-spec =
     (tie.spec
     Inv-loop
     μ-loop
-    line-requires
     loop-holds
     one-more-requires
     returns
@@ -55,5 +51,5 @@ listed-spec =
     loop-less
     loop-again
     slice-aggregate-line
-    line-requires-2
+    line-requires
     returns-2)

@@ -1,24 +1,22 @@
--- The loop counts to 4,096, and each number fits.
-use native.Mathlib.Omega.{arith}
 use borrow.Author.Needs.{needs}
 use Prim.Native.Nat.{_-_, _≤_}
 use Rattle.tried_ordered.proofs.made.long_chain.Statement.{statement}
 use Rattle.tried_ordered.proofs.made.long_chain.Tie as tie
 
 abbrev Inv-loop : tie.InvT-loop
-Inv-loop sig₀ i₀ sig i = i ≤ 4096
+Inv-loop sig₀ p₀ sig p = p ≤ 16384
 
 abbrev μ-loop : tie.MeasureT-loop
-μ-loop sig₀ i₀ sig i = 4096 - i
+μ-loop sig₀ p₀ sig p = 16384 - p
 
 loop-holds : tie.Need-loop-holds Inv-loop μ-loop
 loop-holds c = search needs
 
-cast-at : tie.Need-cast-at Inv-loop μ-loop
-cast-at c = search needs
+chain-number-requires : tie.Need-chain-number-requires Inv-loop μ-loop
+chain-number-requires c κs = search needs
 
-mul-at : tie.Need-mul-at Inv-loop μ-loop
-mul-at c = search needs
+cast-sig : tie.Need-cast-sig Inv-loop μ-loop
+cast-sig c = search needs
 
 mul-sig : tie.Need-mul-sig Inv-loop μ-loop
 mul-sig c = search needs
@@ -26,38 +24,8 @@ mul-sig c = search needs
 array-write-sig : tie.Need-array-write-sig Inv-loop μ-loop
 array-write-sig c = search needs
 
-sub-sig : tie.Need-sub-sig Inv-loop μ-loop
-sub-sig c = search needs
-
-add-sig : tie.Need-add-sig Inv-loop μ-loop
-add-sig c = search needs
-
-mul-sig-2 : tie.Need-mul-sig-2 Inv-loop μ-loop
-mul-sig-2 c = search needs
-
-array-write-sig-2 : tie.Need-array-write-sig-2 Inv-loop μ-loop
-array-write-sig-2 c = search needs
-
-add-sig-2 : tie.Need-add-sig-2 Inv-loop μ-loop
-add-sig-2 c = search needs
-
-mul-sig-3 : tie.Need-mul-sig-3 Inv-loop μ-loop
-mul-sig-3 c = search needs
-
-array-write-sig-3 : tie.Need-array-write-sig-3 Inv-loop μ-loop
-array-write-sig-3 c = search needs
-
-add-sig-3 : tie.Need-add-sig-3 Inv-loop μ-loop
-add-sig-3 c = search needs
-
-mul-sig-4 : tie.Need-mul-sig-4 Inv-loop μ-loop
-mul-sig-4 c = search needs
-
-array-write-sig-4 : tie.Need-array-write-sig-4 Inv-loop μ-loop
-array-write-sig-4 c = search needs
-
-add-i : tie.Need-add-i Inv-loop μ-loop
-add-i c = search needs
+add-p : tie.Need-add-p Inv-loop μ-loop
+add-p c = search needs
 
 loop-less : tie.Need-loop-less Inv-loop μ-loop
 loop-less c = search needs
@@ -75,21 +43,11 @@ long-chain-spec =
     Inv-loop
     μ-loop
     loop-holds
-    cast-at
-    mul-at
+    chain-number-requires
+    cast-sig
     mul-sig
     array-write-sig
-    sub-sig
-    add-sig
-    mul-sig-2
-    array-write-sig-2
-    add-sig-2
-    mul-sig-3
-    array-write-sig-3
-    add-sig-3
-    mul-sig-4
-    array-write-sig-4
-    add-i
+    add-p
     loop-less
     loop-again
     returns)
