@@ -15,6 +15,7 @@ use native.Mathlib.Decide.{ℕ-discrete}
 use lib.ListN.{length, getD, replicate, length-reverse}
 use Rattle.trees.specs.Signature.{Entries}
 use Rattle.trees.specs.Facts.{Facts}
+use Rattle.trees.specs.Names.{passes, Passes, passes-true, true-passes}
 use Rattle.walks.specs.Every.{Pairs, pairs-weaken, pairs-unique}
 use Rattle.walks.specs.Walking.{Choices, answersFrom}
 use Rattle.walks.specs.Answers.{Fits, Good}
@@ -23,10 +24,8 @@ use Rattle.walks.specs.Listing.{answers-ascending, answers-unique}
 use Rattle.walks.specs.Potential.{Bounded}
 use Rattle.walks.specs.Preorder.{Smaller, first, then, ascending-smaller}
 use Rattle.walks.specs.Room.{imageOf, roomOf, room-get, image-zero}
-use Rattle.preparing.specs.Preparing.{passes}
-use Rattle.listed.specs.Loose.{Passes, Under, rank, LooseAnswer}
+use Rattle.listed.specs.Loose.{Under, rank, LooseAnswer}
 use Rattle.listed.specs.Matching.{Match, match, answer-match}
-use Rattle.listed.specs.Bits.{passes-true, true-passes}
 use Rattle.listed.specs.Choosing.{parentOf, choices, choices-plain, byName, looseAnswers, NodeFits, end-high, nodes-of, of-nodes}
 
 -- ---- an answer read in the order of the nodes

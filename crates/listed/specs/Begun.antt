@@ -33,6 +33,7 @@ pub record Clear (n : ℕ) (lent left : List ℕ) : Type 0 where
   pub zeros : (i : ℕ) → i < 2 * n → getD left i 0 ≡ 0
   pub others : (i : ℕ) → 2 * n ≤ i → getD left i 0 ≡ getD lent i 0
 
+-- demand 2 of a start call: wherever it can it begins at n and clears just the 2×n numbers; where it refuses it writes nothing
 pub record StartTwo (call : Starter) : Type 0 where
   pub works : (n : ℕ) (lent : List ℕ) → 1 ≤ n → n ≤ 4096 → 2 * n ≤ length lent
       → (call n lent .says ≡ Started.Fresh (prepAt n)) × Clear n lent (call n lent .left)

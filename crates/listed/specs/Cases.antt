@@ -17,6 +17,7 @@ use lib.ListN.{replicate}
 use Rattle.turns.specs.Turn.{Turned, run}
 use Rattle.turns.specs.Chains.{one, more}
 use Rattle.trees.specs.Signature.{cell}
+use Rattle.trees.specs.Names.{passes}
 use Rattle.checking.specs.declared.Stop.{Stop}
 use Rattle.checking.specs.Rule as check
 use Rattle.checking.specs.Turn.{turnWithin, lengthFault}
@@ -26,19 +27,21 @@ use Rattle.walking.specs.declared.Walk.{Walk}
 use Rattle.walking.specs.declared.WalkTurn.{WalkTurn}
 use Rattle.preparing.specs.Masks.{every, hasBit, mask, put}
 use Rattle.preparing.specs.Given.{givenOf, ready, begun}
-use Rattle.preparing.specs.Preparing.{Preparing, passes, childrenIn, stands, canOf, badParent, written, joined, stepTable, prepStep}
+use Rattle.preparing.specs.Preparing.{Preparing, childrenIn, stands, canOf, badParent, written, joined, stepTable, prepStep}
 use Rattle.preparing.specs.PrepTurn.{cleared, startFault, StartPromise, prepAt, PrepHanded}
 use Rattle.walking.specs.WalkTurn.{WalkHanded}
 use Rattle.listed.specs.Questions.{Accepted, PrepBack, PrepTurns, Prepared}
 
 -- ---- what the code hands back
 
+-- what the code hands back and leaves for a turn of preparing by the rule
 abbrev pub prepBack : Turned Preparing → PrepBack
 prepBack t = record { turn = record { state = prepAt (t .state .next); steps = t .steps; stop = stopOf (t .halt) }; left = t .state .table }
 
 pub prep-handed : (t : Turned Preparing) → PrepHanded (prepBack t .turn) (prepBack t .left) t
 prep-handed t = record { state = refl; steps = refl; stop = told-stop (t .halt); leaves = refl }
 
+-- what the code hands back for a turn of the walk by the rule
 abbrev pub walkBack : Turned Walk → WalkTurn
 walkBack t = record { walk = t .state; steps = t .steps; stop = stopOf (t .halt) }
 
@@ -47,23 +50,29 @@ walk-handed t = record { walk = refl; steps = refl; stop = told-stop (t .halt) }
 
 -- ---- the trees and the twigs
 
+-- "Five, all named 1: 5,6,0; 1,3,1; 4,6,1; 2,5,3; 3,6,3."
 abbrev pub five : List ℕ
 five = 1 ∷ 5 ∷ 6 ∷ 0 ∷ 1 ∷ 1 ∷ 3 ∷ 1 ∷ 1 ∷ 4 ∷ 6 ∷ 1 ∷ 1 ∷ 2 ∷ 5 ∷ 3 ∷ 1 ∷ 3 ∷ 6 ∷ 3 ∷ []
 
+-- "the twig 1(1)", as its numbers
 abbrev pub oneOne : List ℕ
 oneOne = 1 ∷ 2 ∷ 3 ∷ 0 ∷ 1 ∷ 1 ∷ 3 ∷ 1 ∷ []
 
+-- "Entries 1,4,5,0; 2,2,4,1; 3,1,4,2; 4,3,5,1"
 abbrev pub four : List ℕ
 four = 1 ∷ 4 ∷ 5 ∷ 0 ∷ 2 ∷ 2 ∷ 4 ∷ 1 ∷ 3 ∷ 1 ∷ 4 ∷ 2 ∷ 4 ∷ 3 ∷ 5 ∷ 1 ∷ []
 
+-- "twig 2(3,4)", as its numbers
 abbrev pub twoThreeFour : List ℕ
 twoThreeFour = 2 ∷ 3 ∷ 4 ∷ 0 ∷ 3 ∷ 1 ∷ 3 ∷ 1 ∷ 4 ∷ 2 ∷ 4 ∷ 1 ∷ []
 
+-- "Ten: names 1 2 3 4 5 7 6 8 9 10 with (post, ff, fa) 10,11,0; 5,7,1; 3,6,2; 1,5,3; [..]"
 abbrev pub ten : List ℕ
 ten =
     1 ∷ 10 ∷ 11 ∷ 0 ∷ 2 ∷ 5 ∷ 7 ∷ 1 ∷ 3 ∷ 3 ∷ 6 ∷ 2 ∷ 4 ∷ 1 ∷ 5 ∷ 3 ∷ 5 ∷ 2 ∷ 6 ∷ 3 ∷ 7 ∷ 4 ∷ 7 ∷ 2 ∷ 6 ∷ 9 ∷ 11 ∷ 1
     ∷ 8 ∷ 8 ∷ 11 ∷ 7 ∷ 9 ∷ 6 ∷ 10 ∷ 8 ∷ 10 ∷ 7 ∷ 11 ∷ 8 ∷ []
 
+-- "Twig 8(9,10) on Ten", as its numbers
 abbrev pub eight : List ℕ
 eight = 8 ∷ 3 ∷ 4 ∷ 0 ∷ 9 ∷ 1 ∷ 3 ∷ 1 ∷ 10 ∷ 2 ∷ 4 ∷ 1 ∷ []
 
@@ -91,9 +100,11 @@ back t k stop table = record { turn = record { state = prepAt t; steps = k; stop
 abbrev pub fiveTable : List ℕ
 fiveTable = 3 ∷ 3 ∷ 2 ∷ 0 ∷ 3 ∷ 2 ∷ 2 ∷ 0 ∷ 2 ∷ 0 ∷ 7 ∷ []
 
+-- what preparing leaves for the four entries and the twig 2(3,4)
 abbrev pub fourTable : List ℕ
 fourTable = 0 ∷ 6 ∷ 0 ∷ 2 ∷ 2 ∷ 0 ∷ 4 ∷ 0 ∷ 7 ∷ []
 
+-- what preparing leaves for Ten and the twig 8(9,10)
 abbrev pub tenTable : List ℕ
 tenTable = 0 ∷ 7 ∷ 0 ∷ 0 ∷ 0 ∷ 0 ∷ 0 ∷ 0 ∷ 0 ∷ 0 ∷ 0 ∷ 0 ∷ 0 ∷ 7 ∷ 1 ∷ 6 ∷ 2 ∷ 0 ∷ 4 ∷ 0 ∷ 7 ∷ []
 
@@ -101,6 +112,7 @@ tenTable = 0 ∷ 7 ∷ 0 ∷ 0 ∷ 0 ∷ 0 ∷ 0 ∷ 0 ∷ 0 ∷ 0 ∷ 0 ∷ 0 �
 abbrev pub lentFor : ℕ → List ℕ
 lentFor n = replicate (2 * n + 1) 7
 
+-- the same table, as the start call for n leaves it
 abbrev pub clearedFor : ℕ → List ℕ
 clearedFor n = cleared (2 * n) (lentFor n)
 

@@ -17,10 +17,10 @@ use native.Mathlib.Decide.{ℕ-discrete}
 use lib.ListN.{length}
 use Rattle.trees.specs.Signature.{Entries}
 use Rattle.trees.specs.Facts.{Facts}
+use Rattle.trees.specs.Names.{passes}
 use Rattle.walks.specs.Walking.{Choices, answersFrom}
 use Rattle.walks.specs.Plain.{Plain, Inside, InRange}
 use Rattle.walks.specs.Room.{imageOf, image-top, image-down}
-use Rattle.preparing.specs.Preparing.{passes}
 
 -- the image of the next node's twig parent; what stands above the root has image 0
 unfoldable pub parentOf : Entries → List ℕ → ℕ

@@ -17,10 +17,9 @@ use borrow.Author.Tests.{le-leb}
 use Rattle.turns.specs.Turn.{Turned, turn, Outcome}
 use Rattle.turns.specs.Laws.{turn-outcome, outcome-turn}
 use Rattle.turns.specs.Chains.{Chain, one, more}
-use Rattle.trees.specs.Signature.{entriesOf, width}
+use Rattle.trees.specs.Signature.{entriesOf, width, entries}
 use Rattle.walks.specs.Chained.{told, AllButLast}
 use Rattle.checking.specs.declared.Stop.{Stop}
-use Rattle.checked.specs.Yields.{entries}
 use Rattle.preparing.specs.declared.Prep.{Prep}
 use Rattle.preparing.specs.declared.Started.{Started}
 use Rattle.walking.specs.declared.Walk.{Walk}
@@ -45,9 +44,11 @@ Preparer = List ℕ → List ℕ → ℕ → Lent → PrepBack
 abbrev pub Walker : Type 0
 Walker = List ℕ → List ℕ → List ℕ → ℕ → Walk → WalkTurn
 
+-- calls of a turn of preparing one after the other, each given the state and the table that the one before left
 abbrev pub PrepCalls : Preparer → List ℕ → List ℕ → Lent → ℕ → ℕ → PrepBack → Type 0
 PrepCalls call s tw st B K r = Chain Lent PrepBack (λ b from t. t ≡ call s tw b from) lend (λ t. t .turn .steps) st B K r
 
+-- calls of a turn of the walk one after the other, each given the walk that the one before handed back
 abbrev pub WalkCalls : Walker → List ℕ → List ℕ → List ℕ → Walk → ℕ → ℕ → WalkTurn → Type 0
 WalkCalls call s tw table w B K r = Chain Walk WalkTurn (λ b from t. t ≡ call s tw table b from) (λ t. t .walk) (λ t. t .steps) w B K r
 
@@ -93,6 +94,7 @@ PrepThree call =
     → (t : Turned Preparing) × PrepHanded (call s tw b st .turn) (call s tw b st .left) t
     × Outcome Preparing prepared (prepStep (entriesOf width s) (entriesOf width tw) (entries tw)) b (reading st) t
 
+-- the same of walking: for any table of 2×n numbers or more, and any walk in its ranges
 abbrev pub WalkThree : Walker → Type 0
 WalkThree call =
     (s tw left : List ℕ) → givenOf s tw .reason ≡ 1 → 2 * entries s ≤ length left → (b : ℕ) (w : Walk)

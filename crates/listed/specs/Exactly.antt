@@ -15,7 +15,7 @@ use native.Mathlib.Omega.{arith}
 use Rattle.turns.specs.Turn.{Halt, answer, end, budget, refusal, Turned, Outcome, ended, spent, told as tells, faulty}
 use Rattle.turns.specs.Laws.{turn-outcome}
 use Rattle.turns.specs.Chains.{one, more}
-use Rattle.trees.specs.Signature.{entriesOf, width}
+use Rattle.trees.specs.Signature.{entriesOf, width, entries}
 use Rattle.walks.specs.Every.{Pairs}
 use Rattle.walks.specs.Walking as walks
 use Rattle.walks.specs.Walking.{Choices, answersFrom, ahead, walkDone, walkStep}
@@ -27,7 +27,6 @@ use Rattle.walks.specs.Chained.{told, AllButLast, chain-last, chain-one}
 use Rattle.walks.specs.Stepping.{step-unrefused}
 use Rattle.checking.specs.declared.Stop.{Stop}
 use Rattle.checked.specs.Apart.{stopOf}
-use Rattle.checked.specs.Yields.{entries}
 use Rattle.walking.specs.declared.Walk.{Walk}
 use Rattle.walking.specs.declared.WalkTurn.{WalkTurn}
 use Rattle.preparing.specs.Masks.{can}

@@ -9,8 +9,7 @@ use mathlib.Core.List.{List}
 use lib.ListN.{length}
 use Rattle.turns.specs.Turn.{Turned, Outcome}
 use Rattle.turns.specs.Demand.{Faithful}
-use Rattle.trees.specs.Signature.{entriesOf, width}
-use Rattle.checked.specs.Yields.{entries}
+use Rattle.trees.specs.Signature.{entriesOf, width, entries}
 use Rattle.preparing.specs.Masks.{can}
 use Rattle.preparing.specs.Given.{givenOf}
 use Rattle.preparing.specs.Preparing.{Preparing, prepared, prepStep}
@@ -28,6 +27,7 @@ use Rattle.listed.specs.Demands.{Preparer, Walker, PrepThree, WalkThree,
 abbrev pub lentOf : Preparing → Lent
 lentOf p = record { state = prepAt (p .next); table = p .table }
 
+-- what a turn of preparing handed back and left, as a turn of the rule
 abbrev pub prepTurned : PrepBack → Turned Preparing
 prepTurned r = prep.turnedOf (r .turn) (r .left)
 
@@ -38,6 +38,7 @@ PrepFaithful call =
     → Faithful Preparing prepared (prepStep (entriesOf width s) (entriesOf width tw) (entries tw)) (Ready (entries s))
     (λ b p. prepTurned (call s tw b (lentOf p)))
 
+-- demand 3 of turns, asked of walking
 abbrev pub WalkFaithful : Walker → Type 0
 WalkFaithful call =
     (s tw left : List ℕ) → givenOf s tw .reason ≡ 1 → 2 * entries s ≤ length left

@@ -11,12 +11,14 @@ use native.Mathlib.Omega.{arith}
 use native.Mathlib.Decide.{decLe, ℕ-discrete}
 use lib.Bits.{bitOr}
 use lib.ListN.{length}
+use Rattle.turns.specs.Truth.{or-cases, or-left, or-right}
 use Rattle.trees.specs.Signature.{Entries}
 use Rattle.trees.specs.Facts.{Facts}
 use Rattle.preparing.specs.Masks.{hasBit, can, below}
 use Rattle.preparing.specs.Preparing.{stepTable}
 use Rattle.listed.specs.Matching.{Match, match}
-use Rattle.listed.specs.Bits.{or-bit, or-true, true-left, true-right, stands-each, each-stands, can-bit, can-none}
+use Rattle.preparing.proofs.Bits.{or-bit}
+use Rattle.listed.specs.Bits.{stands-each, each-stands, can-bit, can-none}
 use Rattle.listed.specs.Tables.{Parented, newCan, can-new, can-same, below-new, below-same}
 use Rattle.listed.specs.Rightly.{Child, in-child, child-under, Joined, Right}
 
@@ -96,7 +98,7 @@ module _ (n m : ℕ) (e w : Entries) (tree : Facts n e) (table : List ℕ) (t : 
           two l f (inr k) = from-can s q l f (can-now-sound q c d k)
 
           three : 1 < t → s ≡ e .fa t → ((x || y) ≡ true) ⊎ (z ≡ true) → Joined n m e w (t - 1) s q
-          three l f (inl k) = two l f (or-true x y k)
+          three l f (inl k) = two l f (or-cases x y k)
           three l f (inr k) = from-below s q l f (ok .below-sound t q low high c d k)
 
           by : Dec (t ≤ 1) → Dec (s ≡ e .fa t) → Joined n m e w (t - 1) s q
@@ -104,7 +106,7 @@ module _ (n m : ℕ) (e w : Entries) (tree : Facts n e) (table : List ℕ) (t : 
           by (no l) (no f) = old (below-same e w m table t low room parented s a (λ g k. f k))
           by (no l) (yes f) =
               let k : 1 < t = omega arith in
-              three k f (or-true (x || y) z (sym (joined-bit k f) ∙ h))
+              three k f (or-cases (x || y) z (sym (joined-bit k f) ∙ h))
 
       below-now-complete : Joined n m e w (t - 1) s q → hasBit (below after s) q ≡ true
       below-now-complete u = by (ℕ-discrete (u .inside .child) t) (decLe t 1) (ℕ-discrete s (e .fa t))
@@ -116,13 +118,13 @@ module _ (n m : ℕ) (e w : Entries) (tree : Facts n e) (table : List ℕ) (t : 
           -- the match is at t itself, or below it
           here : 1 < t → s ≡ e .fa t → u .inside .child ≡ t → Dec (u .at ≡ t) → hasBit (below after s) q ≡ true
           here l f k (yes i) =
-              joined-bit l f ∙ true-left (x || y) z (true-right x y (can-now-complete q c d (rw i at (u .found))))
+              joined-bit l f ∙ or-left (x || y) z (or-right x y (can-now-complete q c d (rw i at (u .found))))
           here l f k (no i) =
               let g = rw k at (u .inside .high) in
               let o = rw k at (u .inside .low) in
               let v = in-child n e tree t (u .at) low (omega arith) (omega (arith, tree .each t low high .ff-high)) g in
               joined-bit l f
-              ∙ true-right (x || y) z (ok .below-complete t q low high c d
+              ∙ or-right (x || y) z (ok .below-complete t q low high c d
               (record { at = u .at; inside = v; done = v .after; found = u .found }))
 
           by : Dec (u .inside .child ≡ t) → Dec (t ≤ 1) → Dec (s ≡ e .fa t) → hasBit (below after s) q ≡ true
@@ -131,7 +133,7 @@ module _ (n m : ℕ) (e w : Entries) (tree : Facts n e) (table : List ℕ) (t : 
           by (yes k) (no l) (yes f) = here (omega arith) f k (ℕ-discrete (u .at) t)
           by (no k) (yes l) f = rw (below-same e w m table t low room parented s a (λ g i. omega arith)) (old k)
           by (no k) (no l) (no f) = rw (below-same e w m table t low room parented s a (λ g i. f i)) (old k)
-          by (no k) (no l) (yes f) = joined-bit (omega arith) f ∙ true-left (x || y) z (true-left x y (old k))
+          by (no k) (no l) (yes f) = joined-bit (omega arith) f ∙ or-left (x || y) z (or-left x y (old k))
 
     -- ---- the table after the step
 

@@ -1,5 +1,4 @@
 -- Loose answers, as document 01 defines them. No table is named here.
---   Passes want name    the name test of a twig node
 --   Under e i j         j is below i
 --   rank l q            the number that the answer l gives node q
 --   Ranked n e w x q   the images x give node q a rank, and its name passes
@@ -11,10 +10,7 @@ use mathlib.Core.Logic.{_⊎_}
 use mathlib.Core.List.{List}
 use lib.ListN.{length, getD}
 use Rattle.trees.specs.Signature.{Entries}
-
--- "a name must be equal unless the twig's is 0"
-abbrev pub Passes : ℕ → ℕ → Type 0
-Passes want name = (want ≡ 0) ⊎ (want ≡ name)
+use Rattle.trees.specs.Names.{Passes}
 
 -- "j is below i when i < j < ff of i"
 pub record Under (e : Entries) (i j : ℕ) : Type 0 where

@@ -14,7 +14,8 @@ use borrow.Author.Tests.{eq-eqb, ne-eqb}
 use Rattle.turns.specs.Pick.{pick}
 use Rattle.trees.specs.Signature.{Entries}
 use Rattle.trees.specs.Facts.{Facts, Inside, Follows}
-use Rattle.listed.specs.Loose.{Passes, Under, rank, Ranked, LooseAnswer, PartFits}
+use Rattle.trees.specs.Names.{Passes}
+use Rattle.listed.specs.Loose.{Under, rank, Ranked, LooseAnswer, PartFits}
 
 -- the images x, with y for node r
 unfoldable placing : (ℕ → ℕ) → ℕ → ℕ → ℕ → ℕ

@@ -13,15 +13,15 @@ use Rattle.trees.specs.Tree.{Tree, whole, size}
 use Rattle.trees.specs.Nodes.{Node, nameOf, Below, Parent}
 use Rattle.trees.specs.Ranks.{pre}
 use Rattle.trees.specs.NodeRanks.{pre-low, pre-high, node-at}
-use Rattle.trees.specs.Signature.{Entries, entriesOf, width}
+use Rattle.trees.specs.Signature.{Entries, entriesOf, width, entries}
 use Rattle.trees.specs.Rows.{Holds}
 use Rattle.trees.specs.Facts.{Facts}
 use Rattle.trees.specs.FactsOf.{facts-of}
 use Rattle.trees.specs.Meanings.{name-is, below-ff, ff-below, parent-fa, fa-some}
+use Rattle.trees.specs.Names.{Passes}
 use Rattle.checking.specs.declared.Kind.{Kind}
-use Rattle.checked.specs.Yields.{entries}
 use Rattle.checked.specs.Wholly.{AcceptedTree, accepted-tree}
-use Rattle.listed.specs.Loose.{Passes, Under, rank, Ranked, LooseAnswer}
+use Rattle.listed.specs.Loose.{Under, rank, Ranked, LooseAnswer}
 use Rattle.listed.specs.Questions.{Accepted}
 use Rattle.listed.specs.Exactly.{allLoose, all-of}
 

@@ -17,10 +17,9 @@ use borrow.Author.Tests.{eq-eqb, le-leb}
 use Rattle.turns.specs.Pick.{pick}
 use Rattle.turns.specs.Turn.{Turned, turn}
 use Rattle.turns.specs.Chains.{Reached, Underway, chain-ends}
-use Rattle.trees.specs.Signature.{Entries, entriesOf, width}
+use Rattle.trees.specs.Signature.{Entries, entriesOf, width, entries}
 use Rattle.checking.specs.declared.Stop.{Stop}
 use Rattle.checked.specs.Apart.{stopOf, told-halt}
-use Rattle.checked.specs.Yields.{entries}
 use Rattle.preparing.specs.declared.Prep.{Prep}
 use Rattle.preparing.specs.declared.Started.{Started}
 use Rattle.preparing.specs.Preparing.{Preparing, prepared, prepStep}

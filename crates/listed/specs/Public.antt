@@ -38,6 +38,7 @@ module _ {S R P : Type 0} (Promise : ℕ → S → R → Type 0) (state : R → 
 
   module _ {A : Type 0} (tell : R → List A) (tells : Turned P → List A)
       (tell-same : (r : R) (t : Turned P) → Inv (t .state) → Is r t → tell r ≡ tells t) where
+    -- the chain of the written rule that a chain of public turns is: the same budgets, steps and stops, and the same told
     pub record Ran (p : P) {st : S} {B K : ℕ} {r : R} (c : Chain S R Promise state steps st B K r) : Type 0 where
       pub last : Turned P
       pub count : ℕ

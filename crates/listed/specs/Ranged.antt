@@ -24,7 +24,7 @@ use Rattle.walking.specs.declared.Phase.{Phase}
 use Rattle.walking.specs.declared.Walk.{Walk}
 use Rattle.preparing.specs.Masks.{every}
 use Rattle.walking.specs.Walking.{image, at, placed, imageFits, phaseFits, inRange}
-use Rattle.listed.specs.Bits.{each-every}
+use Rattle.preparing.proofs.Bits.{every-all}
 use Rattle.listed.specs.Choosing.{parentOf, choices, choices-plain}
 use Rattle.listed.specs.Saved.{byBit, shown, image-room, Way, nodes}
 
@@ -51,7 +51,7 @@ module _ (n m : ℕ) (e w : Entries) (tree : Facts n e) (twig : Facts m w) (smal
       by (no b) = rw (lt-leb q (length z) (omega arith), i q) (eq-eqb (imageOf z q) 0 (image-unset z q (omega arith)))
 
   images-fit : (z : List ℕ) → length z ≤ m → Good ch z → every (imageFits n w (roomOf 16 z) (length z)) 16 ≡ true
-  images-fit z l g = each-every (imageFits n w (roomOf 16 z) (length z)) 16 (λ q a b. image-fits z l g q a)
+  images-fit z l g = every-all (imageFits n w (roomOf 16 z) (length z)) 16 (λ q a b. image-fits z l g q a)
 
   -- the ranges, from their parts
   ranged : (l : List ℕ) (k c j : ℕ) (p : Phase) → 1 ≤ k → k ≤ m → 1 ≤ c → c ≤ n + 1 → placed p k ≡ j → every (imageFits n w l j) 16 ≡ true

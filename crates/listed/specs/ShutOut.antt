@@ -15,6 +15,7 @@ use lib.ListN.{take, replicate}
 use Rattle.turns.specs.Turn.{Turned, run}
 use Rattle.turns.specs.Chains.{one}
 use Rattle.trees.specs.Signature.{cell, entriesOf, width}
+use Rattle.trees.specs.Names.{passes}
 use Rattle.walks.specs.Chained.{told}
 use Rattle.checking.specs.declared.Stop.{Stop}
 use Rattle.checking.specs.declared.Refusal.{Refusal}
@@ -24,7 +25,7 @@ use Rattle.walking.specs.declared.WalkTurn.{WalkTurn}
 use Rattle.preparing.specs.declared.Prep.{Prep}
 use Rattle.preparing.specs.Masks.{every, hasBit, mask, put, can}
 use Rattle.preparing.specs.Given.{givenOf}
-use Rattle.preparing.specs.Preparing.{Preparing, passes, childrenIn, stands, canOf, badParent, written, joined, stepTable, prepStep}
+use Rattle.preparing.specs.Preparing.{Preparing, childrenIn, stands, canOf, badParent, written, joined, stepTable, prepStep}
 use Rattle.preparing.specs.PrepTurn.{cleared, prepAt, prepRunOf}
 use Rattle.walking.specs.Walking.{image, place, at, fresh, imageFits, phaseFits, inRange, endOf, badEnd, back, found, walkOn, stepOf}
 use Rattle.walking.specs.WalkTurn.{walkRunOf, WalkHanded}

@@ -13,7 +13,7 @@ use native.Mathlib.Omega.{arith}
 use lib.ListN.{length, take}
 use Rattle.turns.specs.Turn.{Next, Halt, answer, end, budget, refusal, Turned, turn}
 use Rattle.turns.specs.Chains.{one, more}
-use Rattle.trees.specs.Signature.{Entries, entriesOf, width}
+use Rattle.trees.specs.Signature.{Entries, entriesOf, width, entries}
 use Rattle.walks.specs.Walking as walks
 use Rattle.walks.specs.Walking.{Choices, Rising, walking, atAnswer, atEnd, images, walkDone, walkStep, walkTurn}
 use Rattle.walks.specs.Plain.{plain-rising}
@@ -28,7 +28,6 @@ use Rattle.walks.specs.Mirror.{asTurned, Mirrors, turn-mirrored, turn-inv, chai
 use Rattle.walks.specs.Room.{imageOf, roomOf, room-take}
 use Rattle.checking.specs.declared.Stop.{Stop}
 use Rattle.checked.specs.Apart.{stopOf, told-halt}
-use Rattle.checked.specs.Yields.{entries}
 use Rattle.walking.specs.declared.Walk.{Walk}
 use Rattle.walking.specs.declared.WalkTurn.{WalkTurn}
 use Rattle.preparing.specs.Masks.{can}
@@ -214,6 +213,7 @@ module _ (s tw : List ℕ) (g : Grounds s tw) where
 
     -- ---- the walks on the way
 
+    -- the fresh walk of m nodes over the table's bits
     abbrev pub first : walks.Walk
     first = walks.fresh ch (m - 1)
 

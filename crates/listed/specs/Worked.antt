@@ -15,6 +15,7 @@ use lib.ListN.{length, replicate}
 use Rattle.turns.specs.Turn.{run}
 use Rattle.turns.specs.Chains.{one, more}
 use Rattle.trees.specs.Signature.{cell, entriesOf, width}
+use Rattle.trees.specs.Names.{passes}
 use Rattle.walks.specs.Walking.{answersFrom, passing, passingOf}
 use Rattle.walks.specs.Room.{imageOf}
 use Rattle.walks.specs.Chained.{told}
@@ -25,7 +26,6 @@ use Rattle.walking.specs.declared.Phase.{Phase}
 use Rattle.walking.specs.declared.WalkTurn.{WalkTurn}
 use Rattle.preparing.specs.Masks.{every, hasBit, can}
 use Rattle.preparing.specs.Given.{givenOf, ready, begun}
-use Rattle.preparing.specs.Preparing.{passes}
 use Rattle.preparing.specs.PrepTurn.{prepAt}
 use Rattle.walking.specs.Walking.{image, place, at, fresh, imageFits, phaseFits, inRange, endOf, badEnd, back, found, walkOn, stepOf}
 use Rattle.walking.specs.WalkTurn.{walkTurnOf}

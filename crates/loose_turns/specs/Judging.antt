@@ -15,6 +15,7 @@ use Rattle.turns.specs.Laws as Laws
 use Rattle.turns.specs.Chains as Chains
 
 module _ (S : Type 0) (done : S → Bool) (step : S → Next S) (whole : ℕ → S → Turned S) (Good : S → Type 0) where
+  -- a turn from st runs by the written rule, or is refused as it was given with one number for every budget
   pub data Judged (st : S) : Type 0 where
     runs : Good st → Judged st
     refuses : (number entry : ℕ) → ((b : ℕ) → whole b st ≡ record { state = st; steps = 0; halt = Halt.refusal number entry }) → Judged st

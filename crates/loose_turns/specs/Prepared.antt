@@ -19,7 +19,7 @@ use Rattle.turns.specs.Pick.{pick}
 use Rattle.turns.specs.Turn.{Next, moved, answered, refused, Halt, Turned, turn, Step, on, found, Steps}
 use Rattle.turns.specs.Counts as Counts
 use Rattle.turns.specs.Laws as Laws
-use Rattle.trees.specs.Signature.{Entries, entriesOf, width}
+use Rattle.trees.specs.Signature.{Entries, entriesOf, width, entries}
 use Rattle.checking.specs.declared.Stop.{Stop}
 use Rattle.checking.specs.declared.Refusal.{Refusal}
 use Rattle.checking.specs.Stops.{told, haltTold}
@@ -28,7 +28,7 @@ use Rattle.preparing.specs.declared.Prep.{Prep}
 use Rattle.preparing.specs.declared.PrepTurn.{PrepTurn}
 use Rattle.preparing.specs.declared.Started.{Started}
 use Rattle.preparing.specs.Masks.{tableWidth}
-use Rattle.preparing.specs.Given.{sizeOf, givenOf, begun, refusedFor}
+use Rattle.preparing.specs.Given.{givenOf, begun, refusedFor}
 use Rattle.preparing.specs.Preparing.{Preparing, prepared, prepStep, badParent, stepTable}
 use Rattle.preparing.specs.PrepTurn.{cleared, startFault, startTold, Fresh, StartPromise, prepAt, underway, preparing, prepInRange, prepRun, prepTurnOf, PrepHanded, PrepPromise}
 use Rattle.preparing.proofs.Judged.{begun-run, begun-ready, ready-state, ready-room}
@@ -108,8 +108,9 @@ module _ (n : ℕ) (table : List ℕ) where
       kept-whole (no h) = simp (ne-eqb _ _ h)
 
 module _ (sig twig : List ℕ) where
+  -- the written step of preparing, on the numbers of a signature and a twig
   abbrev pub step : Preparing → Next Preparing
-  step st = prepStep (entriesOf width sig) (entriesOf width twig) (sizeOf twig) st
+  step st = prepStep (entriesOf width sig) (entriesOf width twig) (entries twig) st
 
   abbrev whole : ℕ → Preparing → Turned Preparing
   whole b st = prepTurnOf sig twig b st
@@ -119,19 +120,19 @@ module _ (sig twig : List ℕ) where
   -- the twig and the signature's length are accepted, the state is in range, and the room is enough
   pub record Good (st : Preparing) : Type 0 where
     pub given : givenOf sig twig .reason ≡ 1
-    pub in-range : st .next ≤ sizeOf sig
-    pub room : tableWidth * sizeOf sig ≤ length (st .table)
+    pub in-range : st .next ≤ entries sig
+    pub room : tableWidth * entries sig ≤ length (st .table)
 
   run-is : (b : ℕ) (st : Preparing) → Good st → whole b st ≡ turn Preparing prepared step b st
-  run-is b st g = begun-run sig twig (length (st .table)) st (prepInRange (sizeOf sig) st) (prepRun sig twig b st) (g .given) (le-leb _ _ (g .in-range)) (g .room)
+  run-is b st g = begun-run sig twig (length (st .table)) st (prepInRange (entries sig) st) (prepRun sig twig b st) (g .given) (le-leb _ _ (g .in-range)) (g .room)
 
   after-step : (st to : Preparing) → step st ≡ moved to
-      → to ≡ record { next = st .next - 1; table = stepTable (entriesOf width sig) (entriesOf width twig) (sizeOf twig) (st .table) (st .next) }
+      → to ≡ record { next = st .next - 1; table = stepTable (entriesOf width sig) (entriesOf width twig) (entries twig) (st .table) (st .next) }
   unfolding prepStep
   after-step st to = go (badParent (entriesOf width sig) (st .next))
     where
       next : Preparing
-      next = record { next = st .next - 1; table = stepTable (entriesOf width sig) (entriesOf width twig) (sizeOf twig) (st .table) (st .next) }
+      next = record { next = st .next - 1; table = stepTable (entriesOf width sig) (entriesOf width twig) (entries twig) (st .table) (st .next) }
 
       go : (a : Bool) → pick a (refused 11 0) (moved next) ≡ moved to → to ≡ next
       go true q = let z : _≡_ {A = ℕ} 0 1 = cc in absurd (omega arith)
@@ -143,7 +144,7 @@ module _ (sig twig : List ℕ) where
     where
       go : (a : Bool)
           → pick a (refused 11 0)
-          (moved (record { next = st .next - 1; table = stepTable (entriesOf width sig) (entriesOf width twig) (sizeOf twig) (st .table) (st .next) }))
+          (moved (record { next = st .next - 1; table = stepTable (entriesOf width sig) (entriesOf width twig) (entries twig) (st .table) (st .next) }))
           ≡ answered to → ⊥
       go true q = let z : _≡_ {A = ℕ} 0 1 = cc in omega arith
       go false q = let z : _≡_ {A = ℕ} 0 1 = cc in omega arith
@@ -154,19 +155,19 @@ module _ (sig twig : List ℕ) where
       rw (after-step a b e) (record {
         given = g .given;
         in-range = omega (arith, g .in-range);
-        room = rw (table-length (entriesOf width sig) (entriesOf width twig) (sizeOf twig) (a .table) (a .next)) (g .room);
+        room = rw (table-length (entriesOf width sig) (entriesOf width twig) (entries twig) (a .table) (a .next)) (g .room);
       })
 
   judged : (st : Preparing) → Judging.Judged Preparing prepared step whole Good st
-  judged st = go (ℕ-discrete (givenOf sig twig .reason) 1) (decLe (st .next) (sizeOf sig)) (decLe (tableWidth * sizeOf sig) (length (st .table)))
+  judged st = go (ℕ-discrete (givenOf sig twig .reason) 1) (decLe (st .next) (entries sig)) (decLe (tableWidth * entries sig) (length (st .table)))
     where
-      go : Dec (givenOf sig twig .reason ≡ 1) → Dec (st .next ≤ sizeOf sig) → Dec (tableWidth * sizeOf sig ≤ length (st .table))
+      go : Dec (givenOf sig twig .reason ≡ 1) → Dec (st .next ≤ entries sig) → Dec (tableWidth * entries sig ≤ length (st .table))
           → Judging.Judged Preparing prepared step whole Good st
       go (no h) x y = Judging.Judged.refuses (givenOf sig twig .number) (givenOf sig twig .entry) (λ b. early sig twig (length (st .table)) st _ _ h)
       go (yes h) (no x) y =
-          Judging.Judged.refuses 9 0 (λ b. begun-ready sig twig (length (st .table)) st _ _ h ∙ ready-state (sizeOf sig) (length (st .table)) st _ _ (lt-leb (st .next) (sizeOf sig) (omega arith)))
+          Judging.Judged.refuses 9 0 (λ b. begun-ready sig twig (length (st .table)) st _ _ h ∙ ready-state (entries sig) (length (st .table)) st _ _ (lt-leb (st .next) (entries sig) (omega arith)))
       go (yes h) (yes x) (no y) =
-          Judging.Judged.refuses 10 0 (λ b. begun-ready sig twig (length (st .table)) st _ _ h ∙ ready-room (sizeOf sig) (length (st .table)) st _ _ (le-leb _ _ x) (omega arith))
+          Judging.Judged.refuses 10 0 (λ b. begun-ready sig twig (length (st .table)) st _ _ h ∙ ready-room (entries sig) (length (st .table)) st _ _ (le-leb _ _ x) (omega arith))
       go (yes h) (yes x) (yes y) = Judging.Judged.runs (record { given = h; in-range = x; room = y })
 
   -- ---- one turn, from any state
@@ -181,10 +182,10 @@ module _ (sig twig : List ℕ) where
         (Judging.counted Preparing prepared step whole Good run-is kept b (preparing st table) (judged (preparing st table)))
 
     -- "any t over n is out of range"
-    pub handed-back-in-range : st .next .0 ≤ sizeOf sig → r .state .next .0 ≤ sizeOf sig
+    pub handed-back-in-range : st .next .0 ≤ entries sig → r .state .next .0 ≤ entries sig
     handed-back-in-range l = falls step-as-written l
       where
-        falls : {k : ℕ} {a c : Preparing} → Steps Preparing prepared step k a c → a .next ≤ sizeOf sig → c .next ≤ sizeOf sig
+        falls : {k : ℕ} {a c : Preparing} → Steps Preparing prepared step k a c → a .next ≤ entries sig → c .next ≤ entries sig
         falls Steps.none h = h
         falls (Steps.then (on f e) m) h = falls m (rw (after-step _ _ e) (omega arith))
         falls (Steps.then (found f e) m) h = absurd (silent _ _ e)

@@ -15,7 +15,7 @@ use native.Mathlib.Omega.{arith}
 use native.Mathlib.Decide.{ℕ-discrete, decLe}
 use Rattle.turns.specs.Turn.{Next, moved, answered, refused, Halt, Turned, turn, Step, on, found, Steps}
 use Rattle.turns.specs.Laws as Laws
-use Rattle.trees.specs.Signature.{Entries, entriesOf, width}
+use Rattle.trees.specs.Signature.{Entries, entriesOf, width, entries}
 use Rattle.checking.specs.declared.Stop.{Stop}
 use Rattle.checking.specs.declared.Refusal.{Refusal}
 use Rattle.checking.specs.Stops.{told, haltTold}
@@ -23,7 +23,7 @@ use Rattle.checked.specs.Apart.{haltOf, told-apart, told-halt, halt-told}
 use Rattle.walking.specs.declared.Walk.{Walk}
 use Rattle.walking.specs.declared.WalkTurn.{WalkTurn}
 use Rattle.preparing.specs.Masks.{tableWidth, can}
-use Rattle.preparing.specs.Given.{sizeOf, givenOf}
+use Rattle.preparing.specs.Given.{givenOf}
 use Rattle.walking.specs.Kept.{Parents, Ranges}
 use Rattle.walking.specs.Walking.{inRange, stepOf, ended}
 use Rattle.walking.specs.WalkTurn.{walkRun, walkFits, walkTurnOf, WalkHanded, WalkPromise}
@@ -58,50 +58,52 @@ module _ (sig twig table : List ℕ) where
   abbrev t : Entries
   t = entriesOf width twig
 
+  -- the written step of the walk, on the numbers of a signature, a twig and a table
   abbrev pub step : Walk → Next Walk
-  step w = stepOf (sizeOf sig) (sizeOf twig) (entriesOf width sig) t (can table) w
+  step w = stepOf (entries sig) (entries twig) (entriesOf width sig) t (can table) w
 
+  -- a whole turn of the walk: judged first, and then the steps
   abbrev pub whole : ℕ → Walk → Turned Walk
   whole b w = walkTurnOf sig twig table b w
 
   -- the twig and the signature's length are accepted, the walk is in its ranges, and the room is enough
   pub record Good (w : Walk) : Type 0 where
     pub given : givenOf sig twig .reason ≡ 1
-    pub in-range : Ranges (sizeOf sig) (sizeOf twig) t w
-    pub room : tableWidth * sizeOf sig ≤ length table
+    pub in-range : Ranges (entries sig) (entries twig) t w
+    pub room : tableWidth * entries sig ≤ length table
 
   pub run-is : (b : ℕ) (w : Walk) → Good w → whole b w ≡ turn Walk ended step b w
   run-is b w g =
       begun-run sig twig (length table) w (walkFits sig twig w) (walkRun sig twig table b w) (g .given)
-      (range-yes (sizeOf sig) (sizeOf twig) t w (g .in-range)) (g .room)
+      (range-yes (entries sig) (entries twig) t w (g .in-range)) (g .room)
 
-  few : givenOf sig twig .reason ≡ 1 → sizeOf twig ≤ 16
+  few : givenOf sig twig .reason ≡ 1 → entries twig ≤ 16
   few g = given-twig sig twig g .small
 
   pub kept : (a b : Walk) → Step Walk ended step a b → Good a → Good b
   kept a b (on h e) g = record {
     given = g .given;
-    in-range = step-moved (sizeOf sig) (sizeOf twig) t (given-parents sig twig (g .given)) (few (g .given)) (entriesOf width sig) (can table) a h (g .in-range) b e;
+    in-range = step-moved (entries sig) (entries twig) t (given-parents sig twig (g .given)) (few (g .given)) (entriesOf width sig) (can table) a h (g .in-range) b e;
     room = g .room;
   }
   kept a b (found h e) g = record {
     given = g .given;
-    in-range = step-answered (sizeOf sig) (sizeOf twig) t (given-parents sig twig (g .given)) (few (g .given)) (entriesOf width sig) (can table) a h (g .in-range) b e;
+    in-range = step-answered (entries sig) (entries twig) t (given-parents sig twig (g .given)) (few (g .given)) (entriesOf width sig) (can table) a h (g .in-range) b e;
     room = g .room;
   }
 
   judged : (w : Walk) → length (w .images) ≡ 16 → Judging.Judged Walk ended step whole Good w
-  judged w full = go (ℕ-discrete (givenOf sig twig .reason) 1) (walkFits sig twig w) refl (decLe (tableWidth * sizeOf sig) (length table))
+  judged w full = go (ℕ-discrete (givenOf sig twig .reason) 1) (walkFits sig twig w) refl (decLe (tableWidth * entries sig) (length table))
     where
-      go : Dec (givenOf sig twig .reason ≡ 1) → (a : Bool) → walkFits sig twig w ≡ a → Dec (tableWidth * sizeOf sig ≤ length table)
+      go : Dec (givenOf sig twig .reason ≡ 1) → (a : Bool) → walkFits sig twig w ≡ a → Dec (tableWidth * entries sig ≤ length table)
           → Judging.Judged Walk ended step whole Good w
       go (no h) a x y = Judging.Judged.refuses (givenOf sig twig .number) (givenOf sig twig .entry) (λ b. early sig twig (length table) w _ _ h)
       go (yes h) false x y =
-          Judging.Judged.refuses 9 0 (λ b. begun-ready sig twig (length table) w _ _ h ∙ ready-state (sizeOf sig) (length table) w _ _ x)
+          Judging.Judged.refuses 9 0 (λ b. begun-ready sig twig (length table) w _ _ h ∙ ready-state (entries sig) (length table) w _ _ x)
       go (yes h) true x (no y) =
-          Judging.Judged.refuses 10 0 (λ b. begun-ready sig twig (length table) w _ _ h ∙ ready-room (sizeOf sig) (length table) w _ _ x (omega arith))
+          Judging.Judged.refuses 10 0 (λ b. begun-ready sig twig (length table) w _ _ h ∙ ready-room (entries sig) (length table) w _ _ x (omega arith))
       go (yes h) true x (yes y) =
-          Judging.Judged.runs (record { given = h; in-range = range-facts (sizeOf sig) (sizeOf twig) t w full (few h) x; room = y })
+          Judging.Judged.runs (record { given = h; in-range = range-facts (entries sig) (entries twig) t w full (few h) x; room = y })
 
   -- ---- one turn, from any walk
 
@@ -120,7 +122,7 @@ module _ (sig twig table : List ℕ) where
       where
         go : Judging.Judged Walk ended step whole Good w → walkFits sig twig (whole b w .state) ≡ true
         go (Judging.Judged.runs g) =
-            range-yes (sizeOf sig) (sizeOf twig) t (whole b w .state) (Judging.good-kept Walk ended step whole Good run-is kept b w g .in-range)
+            range-yes (entries sig) (entries twig) t (whole b w .state) (Judging.good-kept Walk ended step whole Good run-is kept b w g .in-range)
         go (Judging.Judged.refuses u v e) = rw (e b) l
 
     pub stops-before-the-fault : Good w → (x : Refusal) → r .stop ≡ Stop.Refused x
@@ -150,8 +152,8 @@ module _ (sig twig table : List ℕ) where
   -- ---- counts
 
   leads-on : (a b : Walk) → Good a → Step Walk ended step a b → Less (trail a) (trail b)
-  leads-on a b g (on h e) = progress (sizeOf sig) (sizeOf twig) (entriesOf width sig) t (can table) (few (g .given)) b a (g .in-range) h (inl e)
-  leads-on a b g (found h e) = progress (sizeOf sig) (sizeOf twig) (entriesOf width sig) t (can table) (few (g .given)) b a (g .in-range) h (inr e)
+  leads-on a b g (on h e) = progress (entries sig) (entries twig) (entriesOf width sig) t (can table) (few (g .given)) b a (g .in-range) h (inl e)
+  leads-on a b g (found h e) = progress (entries sig) (entries twig) (entriesOf width sig) t (can table) (few (g .given)) b a (g .in-range) h (inr e)
 
   pub count-unique : {i j : ℕ} {a b : Walk} → Good a → Steps Walk ended step i a b → Steps Walk ended step j a b → i ≡ j
   count-unique g m w =

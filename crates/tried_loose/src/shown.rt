@@ -1,9 +1,11 @@
 // Printing: what a turn handed back, in numbers.
+use checking::Refusal;
 use checking::Stop;
 use libc::STDOUT_FILENO;
 use preparing::PrepTurn;
 use preparing::Started;
 use walking::Phase;
+use walking::Walk;
 use walking::WalkTurn;
 
 pub fn number(x: u64) {
@@ -15,41 +17,32 @@ pub fn wide(x: u16) -> u64 {
     x as u64
 }
 
+pub fn end_line() {
+    io::write_all(STDOUT_FILENO, b"\n");
+}
+
+fn refused(refusal: Refusal) {
+    number(wide(refusal.number));
+    number(wide(refusal.entry.0));
+}
+
+// 0 an answer, 1 the end, 2 the budget, 3 a refusal.
+pub fn stop_number(stop: Stop) -> u64 {
+    match stop {
+        Stop::Answer => 0,
+        Stop::End => 1,
+        Stop::Budget => 2,
+        Stop::Refused(_) => 3,
+    }
+}
+
 pub fn stopped(stop: Stop) {
-    match stop {
-        Stop::Answer => {
-            io::write_all(STDOUT_FILENO, b" 0 0 0");
-        }
-        Stop::End => {
-            io::write_all(STDOUT_FILENO, b" 1 0 0");
-        }
-        Stop::Budget => {
-            io::write_all(STDOUT_FILENO, b" 2 0 0");
-        }
-        Stop::Refused(refusal) => {
-            io::write_all(STDOUT_FILENO, b" 3");
-            number(wide(refusal.number));
-            number(wide(refusal.entry.0));
-        }
-    }
-}
-
-pub fn is_answer(stop: Stop) -> bool {
-    match stop {
-        Stop::Answer => true,
-        Stop::End => false,
-        Stop::Budget => false,
-        Stop::Refused(_) => false,
-    }
-}
-
-pub fn is_budget(stop: Stop) -> bool {
-    match stop {
-        Stop::Answer => false,
-        Stop::End => false,
-        Stop::Budget => true,
-        Stop::Refused(_) => false,
-    }
+    number(stop_number(stop));
+    let Stop::Refused(refusal) = stop else {
+        io::write_all(STDOUT_FILENO, b" 0 0");
+        return;
+    };
+    refused(refusal);
 }
 
 // Every number of a slice.
@@ -61,13 +54,12 @@ fn numbers(s: &[u16]) {
     }
 }
 
-pub fn shown_prep(label: &[u8], turn: PrepTurn) {
-    io::write_all(STDOUT_FILENO, label);
+pub fn shown_prep(turn: PrepTurn) {
     let stop = turn.stop;
     stopped(stop);
     number(turn.steps);
     number(wide(turn.state.next.0));
-    io::write_all(STDOUT_FILENO, b"\n");
+    end_line();
 }
 
 fn phase_number(phase: Phase) -> u64 {
@@ -78,23 +70,25 @@ fn phase_number(phase: Phase) -> u64 {
     }
 }
 
-pub fn shown_walk(label: &[u8], turn: WalkTurn) {
-    io::write_all(STDOUT_FILENO, label);
-    let stop = turn.stop;
-    stopped(stop);
-    number(turn.steps);
-    let walk = turn.walk;
+fn shown_state(walk: Walk) {
     number(wide(walk.node));
     number(wide(walk.candidate.0));
     let phase = walk.phase;
     number(phase_number(phase));
     let images = walk.images;
     numbers(&images);
-    io::write_all(STDOUT_FILENO, b"\n");
 }
 
-pub fn started(label: &[u8], start: Started, table: &[u16]) {
-    io::write_all(STDOUT_FILENO, label);
+pub fn shown_walk(turn: WalkTurn) {
+    let stop = turn.stop;
+    stopped(stop);
+    number(turn.steps);
+    let walk = turn.walk;
+    shown_state(walk);
+    end_line();
+}
+
+pub fn started(start: Started) {
     match start {
         Started::Fresh(state) => {
             io::write_all(STDOUT_FILENO, b" fresh");
@@ -102,16 +96,13 @@ pub fn started(label: &[u8], start: Started, table: &[u16]) {
         }
         Started::Refused(refusal) => {
             io::write_all(STDOUT_FILENO, b" refused");
-            number(wide(refusal.number));
-            number(wide(refusal.entry.0));
+            refused(refusal);
         }
     }
-    numbers(table);
-    io::write_all(STDOUT_FILENO, b"\n");
 }
 
+// Every number of a table, to the line's end.
 pub fn tabled(table: &[u16]) {
-    io::write_all(STDOUT_FILENO, b"table");
     numbers(table);
-    io::write_all(STDOUT_FILENO, b"\n");
+    end_line();
 }

@@ -1,41 +1,53 @@
 // Whole preparations and whole walks, cut in every way.
-use crate::shown::is_answer;
-use crate::shown::is_budget;
+use crate::shown::end_line;
 use crate::shown::number;
 use crate::shown::shown_walk;
+use crate::shown::stop_number;
 use crate::shown::stopped;
 use crate::shown::wide;
+use checking::PreRank;
 use checking::Stop;
 use libc::STDOUT_FILENO;
+use preparing::Prep;
 use preparing::Started;
 use walking::Walk;
+use walking::WalkTurn;
 
-// Prepares the whole table in turns of budget steps, and says the last turn's stop, the sum of the steps and the state.
+// Prepares the whole table in turns of budget steps.
 pub fn prepare(sig: &[u16], twig: &[u16], table: &mut [u16], n: u64, budget: u64) {
-    let start = preparing::prepare_start(n, table);
+    let start = preparing::prepare_start(n, &mut *table);
     let Started::Fresh(fresh) = start else {
         io::write_all(STDOUT_FILENO, b"not started\n");
         return;
     };
-    let mut state = fresh;
-    let mut turns: u64 = 0;
+    prepare_from(sig, twig, &mut *table, fresh.next.0, budget);
+}
+
+// The turns from entry first on; says the last turn's stop, the sum of the steps and the state.
+fn prepare_from(sig: &[u16], twig: &[u16], table: &mut [u16], first: u16, budget: u64) {
+    let mut next = first;
     let mut sum: u64 = 0;
-    while turns < 5000 {
-        turns += 1;
-        let turn = state.turn(sig, twig, table, budget);
-        let stop = turn.stop;
-        state = turn.state;
+    for i in 0..5000u16 {
+        let turn = Prep {
+            next: PreRank(next),
+        }.turn(sig, twig, &mut *table, budget);
+        next = turn.state.next.0;
         sum = added(sum, turn.steps);
-        if !is_budget(stop) {
-            io::write_all(STDOUT_FILENO, b"prepared");
-            stopped(stop);
-            number(sum);
-            number(wide(state.next.0));
-            io::write_all(STDOUT_FILENO, b"\n");
+        let stop = turn.stop;
+        if stop_number(stop) != 2 {
+            prepared(stop, sum, next);
             return;
         }
     }
     io::write_all(STDOUT_FILENO, b"too many turns\n");
+}
+
+fn prepared(stop: Stop, sum: u64, next: u16) {
+    io::write_all(STDOUT_FILENO, b"prepared");
+    stopped(stop);
+    number(sum);
+    number(wide(next));
+    end_line();
 }
 
 // x + y, or the greatest number.
@@ -69,32 +81,56 @@ struct Tally {
     most: u64,
 }
 
-impl Tally {
-    fn spent(self, steps: u64) -> Self {
-        Tally {
-            answers: self.answers,
-            sum: added(self.sum, steps),
-            gap: added(self.gap, steps),
-            most: self.most,
-        }
+// The tally after a turn that the number says the stop of.
+fn counted(tally: Tally, steps: u64, stop: u64) -> Tally {
+    let sum = added(tally.sum, steps);
+    let gap = added(tally.gap, steps);
+    if stop == 2 {
+        return Tally {
+            answers: tally.answers,
+            sum,
+            gap,
+            most: tally.most,
+        };
     }
+    reached(tally.answers, sum, greater(gap, tally.most), stop)
+}
 
-    fn reached(self, answer: bool) -> Self {
-        let gap = self.gap;
-        let mut most = self.most;
-        if most < gap {
-            most = gap;
-        }
-        let mut answers = self.answers;
-        if answer {
-            answers = added(answers, 1);
-        }
-        Tally {
-            answers,
-            sum: self.sum,
-            gap: 0,
-            most,
-        }
+// The tally at a stop.
+fn reached(answers: u64, sum: u64, most: u64, stop: u64) -> Tally {
+    let more = if stop == 0 {
+        added(answers, 1)
+    } else {
+        answers
+    };
+    Tally {
+        answers: more,
+        sum,
+        gap: 0,
+        most,
+    }
+}
+
+fn greater(x: u64, y: u64) -> u64 {
+    if x < y { y } else { x }
+}
+
+// Whether a walk goes on after a stop: not after the end or a refusal, and not with enough answers.
+fn goes_on(stop: u64, answers: u64, enough: u64) -> bool {
+    if stop == 2 {
+        return true;
+    }
+    if stop != 0 {
+        return false;
+    }
+    answers < enough
+}
+
+// Prints where a turn came to, unless its budget stopped it.
+fn reported(turn: WalkTurn, stop: u64) {
+    if stop != 2 {
+        io::write_all(STDOUT_FILENO, b"at");
+        shown_walk(turn);
     }
 }
 
@@ -109,41 +145,32 @@ pub fn walk(sig: &[u16], twig: &[u16], table: &[u16], kind: u64, enough: u64, pr
         most: 0,
     };
     let mut seed: u64 = 4711;
-    let mut turns: u64 = 0;
-    while turns < 4000000 {
-        turns += 1;
+    for i in 0..4000000u32 {
         seed = next_seed(seed);
         let turn = state.turn(sig, twig, table, spend(kind, seed));
         let stop = turn.stop;
+        let how = stop_number(stop);
         state = turn.walk;
-        tally = tally.spent(turn.steps);
-        if is_budget(stop) {
-            continue;
-        }
-        tally = tally.reached(is_answer(stop));
+        tally = counted(tally, turn.steps, how);
         if print {
-            shown_walk(b"at", turn);
+            reported(turn, how);
         }
-        if !is_answer(stop) {
-            told(tally, stop, sig, twig);
-            return;
-        }
-        if enough <= tally.answers {
-            told(tally, stop, sig, twig);
+        if !goes_on(how, tally.answers, enough) {
+            told(tally, stop, limit(sig.len() / 4, twig.len() / 4));
             return;
         }
     }
     io::write_all(STDOUT_FILENO, b"too many turns\n");
 }
 
-fn told(tally: Tally, stop: Stop, sig: &[u16], twig: &[u16]) {
+fn told(tally: Tally, stop: Stop, most: u64) {
     io::write_all(STDOUT_FILENO, b"walked");
     stopped(stop);
     number(tally.answers);
     number(tally.sum);
     number(tally.most);
-    number(limit(sig.len() / 4, twig.len() / 4));
-    io::write_all(STDOUT_FILENO, b"\n");
+    number(most);
+    end_line();
 }
 
 // 2×m×n+1
@@ -151,35 +178,33 @@ fn limit(n: usize, m: usize) -> u64 {
     if 4096 < n {
         return 0;
     }
-    let entries = n as u64;
-    let mut sum: u64 = 1;
-    let mut k = 0;
-    while k < m {
-        sum = added(sum, 2 * entries);
-        k += 1;
+    if 16 < m {
+        return 0;
     }
-    sum
+    (2 * m * n + 1) as u64
 }
 
 // One turn from the fresh walk.
 pub fn begun(label: &[u8], sig: &[u16], twig: &[u16], table: &[u16], budget: u64) {
-    shown_walk(label, Walk::fresh().turn(sig, twig, table, budget));
+    io::write_all(STDOUT_FILENO, label);
+    shown_walk(Walk::fresh().turn(sig, twig, table, budget));
 }
 
 // Whole walks on a tree, cut in every way, over one table.
 pub fn cuts(sig: &[u16], twig: &[u16], table: &[u16]) {
     begun(b"none", sig, twig, table, 0);
-    walk(sig, twig, table, 1, 1000, false);
-    walk(sig, twig, table, 2, 1000, false);
-    walk(sig, twig, table, 3, 1000, false);
-    walk(sig, twig, table, 4, 1000, false);
-    walk(sig, twig, table, 5, 1000, true);
+    for kind in 1..6u64 {
+        walk(sig, twig, table, kind, 1000, kind == 5);
+    }
 }
 
 // Preparing cut in every way.
 pub fn prepares(sig: &[u16], twig: &[u16], table: &mut [u16], n: u64) {
-    prepare(sig, twig, table, n, 1);
-    prepare(sig, twig, table, n, 2);
-    prepare(sig, twig, table, n, 3);
-    prepare(sig, twig, table, n, 18446744073709551615);
+    for kind in 1..5u64 {
+        prepare(sig, twig, &mut *table, n, cut(kind));
+    }
+}
+
+fn cut(kind: u64) -> u64 {
+    if kind < 4 { kind } else { 18446744073709551615 }
 }

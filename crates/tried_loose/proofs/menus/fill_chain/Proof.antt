@@ -1,24 +1,30 @@
+use borrow.Author.Needs.{needs}
 use lib.ListN.{length}
 use mathlib.Core.Path.{_≡_}
 use Prim.Native.Nat.{_-_, _≤_}
-use borrow.Author.Needs.{needs}
 use Rattle.tried_loose.proofs.menus.fill_chain.Statement.{statement}
 use Rattle.tried_loose.proofs.menus.fill_chain.Tie as tie
 
 abbrev Inv-loop : tie.InvT-loop
-Inv-loop sig₀ n i₀ sig i = (i ≤ n) × (length sig ≡ length sig₀)
+Inv-loop sig₀ n p₀ sig p = (p ≤ 16384) × (length sig ≡ length sig₀)
 
 abbrev μ-loop : tie.MeasureT-loop
-μ-loop sig₀ n i₀ sig i = n - i
+μ-loop sig₀ n p₀ sig p = 16384 - p
 
 loop-holds : tie.Need-loop-holds Inv-loop μ-loop
 loop-holds c = search needs
 
-add-i : tie.Need-add-i Inv-loop μ-loop
-add-i c = search needs
+cast-store : tie.Need-cast-store Inv-loop μ-loop
+cast-store c = search needs
 
-put-link-requires : tie.Need-put-link-requires Inv-loop μ-loop
-put-link-requires c κs = search needs
+chain-number-requires : tie.Need-chain-number-requires Inv-loop μ-loop
+chain-number-requires c κs = search needs
+
+store-requires : tie.Need-store-requires Inv-loop μ-loop
+store-requires c κs = search needs
+
+add-p : tie.Need-add-p Inv-loop μ-loop
+add-p c = search needs
 
 loop-less : tie.Need-loop-less Inv-loop μ-loop
 loop-less c = search needs
@@ -39,8 +45,10 @@ fill-chain-spec =
     Inv-loop
     μ-loop
     loop-holds
-    add-i
-    put-link-requires
+    cast-store
+    chain-number-requires
+    store-requires
+    add-p
     loop-less
     loop-again
     same-length

@@ -1,30 +1,33 @@
+use borrow.Author.Needs.{needs}
 use lib.ListN.{length}
 use mathlib.Core.Path.{_≡_}
 use Prim.Native.Nat.{_-_, _≤_}
-use borrow.Author.Needs.{needs}
 use Rattle.tried_loose.proofs.menus.fill_groups.Statement.{statement}
 use Rattle.tried_loose.proofs.menus.fill_groups.Tie as tie
 
 abbrev Inv-loop : tie.InvT-loop
-Inv-loop sig₀ i₀ g₀ sig i g = (g ≤ 2046) × (length sig ≡ length sig₀)
+Inv-loop sig₀ p₀ sig p = (p ≤ 16384) × (length sig ≡ length sig₀)
 
 abbrev μ-loop : tie.MeasureT-loop
-μ-loop sig₀ i₀ g₀ sig i g = 2046 - g
-
-put-requires : tie.Need-put-requires Inv-loop μ-loop
-put-requires c κs = search needs
+μ-loop sig₀ p₀ sig p = 16384 - p
 
 loop-holds : tie.Need-loop-holds Inv-loop μ-loop
 loop-holds c = search needs
 
-put-group-requires : tie.Need-put-group-requires Inv-loop μ-loop
-put-group-requires c κs = search needs
+cast-store : tie.Need-cast-store Inv-loop μ-loop
+cast-store c = search needs
 
-add-i : tie.Need-add-i Inv-loop μ-loop
-add-i c = search needs
+add-group-number : tie.Need-add-group-number Inv-loop μ-loop
+add-group-number c = search needs
 
-add-g : tie.Need-add-g Inv-loop μ-loop
-add-g c = search needs
+group-number-requires : tie.Need-group-number-requires Inv-loop μ-loop
+group-number-requires c κs = search needs
+
+store-requires : tie.Need-store-requires Inv-loop μ-loop
+store-requires c κs = search needs
+
+add-p : tie.Need-add-p Inv-loop μ-loop
+add-p c = search needs
 
 loop-less : tie.Need-loop-less Inv-loop μ-loop
 loop-less c = search needs
@@ -44,11 +47,12 @@ fill-groups-spec =
     (tie.spec
     Inv-loop
     μ-loop
-    put-requires
     loop-holds
-    put-group-requires
-    add-i
-    add-g
+    cast-store
+    add-group-number
+    group-number-requires
+    store-requires
+    add-p
     loop-less
     loop-again
     same-length

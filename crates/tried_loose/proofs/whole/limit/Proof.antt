@@ -1,49 +1,30 @@
-use Prim.Native.Nat.{_-_, _≤_}
+use native.Mathlib.Omega.{arith}
+use native.Mathlib.Nat.{le-trans, mul-le-mul-left, mul-le-mul-right}
 use borrow.Author.Needs.{needs}
+use Prim.Native.Nat.{ℕ, _*_, _≤_}
 use Rattle.tried_loose.proofs.whole.limit.Statement.{statement}
 use Rattle.tried_loose.proofs.whole.limit.Tie as tie
 
-abbrev Inv-loop : tie.InvT-loop
-Inv-loop n m entries sum₀ k₀ sum k = k ≤ m
+product-small : (x n : ℕ) → x ≤ 32 → n ≤ 4096 → x * n ≤ 131072
+product-small x n h k = le-trans (mul-le-mul-right {m = x} {n = 32} n h) (mul-le-mul-left {m = n} {n = 4096} 32 k)
 
-abbrev μ-loop : tie.MeasureT-loop
-μ-loop n m entries sum₀ k₀ sum k = m - k
-
-returns : tie.Need-returns Inv-loop μ-loop
+returns : tie.Need-returns
 returns c = search needs
 
-loop-holds : tie.Need-loop-holds Inv-loop μ-loop
-loop-holds c = search needs
-
-mul-added : tie.Need-mul-added Inv-loop μ-loop
-mul-added c = search needs
-
-added-requires : tie.Need-added-requires Inv-loop μ-loop
-added-requires c κs = search needs
-
-add-k : tie.Need-add-k Inv-loop μ-loop
-add-k c = search needs
-
-loop-less : tie.Need-loop-less Inv-loop μ-loop
-loop-less c = search needs
-
-loop-again : tie.Need-loop-again Inv-loop μ-loop
-loop-again c = search needs
-
-returns-2 : tie.Need-returns-2 Inv-loop μ-loop
+returns-2 : tie.Need-returns-2
 returns-2 c = search needs
 
+mul-result : tie.Need-mul-result
+mul-result c = search needs
+
+mul-result-2 : tie.Need-mul-result-2
+mul-result-2 c = omega (arith, product-small (2 * c .before .before .args .m) (c .before .before .args .n) (omega arith) (omega arith))
+
+add-result : tie.Need-add-result
+add-result c = omega (arith, product-small (2 * c .before .before .args .m) (c .before .before .args .n) (omega arith) (omega arith))
+
+returns-3 : tie.Need-returns-3
+returns-3 c = search needs
+
 pub limit-spec : {M : Type 1} → statement M
-limit-spec =
-    tie.close
-    (tie.spec
-    Inv-loop
-    μ-loop
-    returns
-    loop-holds
-    mul-added
-    added-requires
-    add-k
-    loop-less
-    loop-again
-    returns-2)
+limit-spec = tie.close (tie.spec returns returns-2 mul-result mul-result-2 add-result returns-3)

@@ -1,22 +1,19 @@
-use Prim.Native.Nat.{_-_, _≤_}
 use borrow.Author.Needs.{needs}
+use Prim.Native.Nat.{_-_, _≤_}
 use Rattle.tried_loose.proofs.whole.walk.Statement.{statement}
 use Rattle.tried_loose.proofs.whole.walk.Tie as tie
 
 abbrev Inv-loop : tie.InvT-loop
-Inv-loop sig twig table kind enough print state₀ tally₀ seed₀ turns₀ t13 t14 state tally seed turns = turns ≤ 4000000
+Inv-loop sig twig table kind enough print state₀ tally₀ seed₀ i₀ t14 state tally seed i = i ≤ 4000000
 
 abbrev μ-loop : tie.MeasureT-loop
-μ-loop sig twig table kind enough print state₀ tally₀ seed₀ turns₀ t13 t14 state tally seed turns = 4000000 - turns
+μ-loop sig twig table kind enough print state₀ tally₀ seed₀ i₀ t14 state tally seed i = 4000000 - i
 
 fresh-requires : tie.Need-fresh-requires Inv-loop μ-loop
 fresh-requires c κs = search needs
 
 loop-holds : tie.Need-loop-holds Inv-loop μ-loop
 loop-holds c = search needs
-
-add-turns : tie.Need-add-turns Inv-loop μ-loop
-add-turns c = search needs
 
 next-seed-requires : tie.Need-next-seed-requires Inv-loop μ-loop
 next-seed-requires c κs = search needs
@@ -27,32 +24,20 @@ spend-requires c κs = search needs
 turn-requires : tie.Need-turn-requires Inv-loop μ-loop
 turn-requires c κs = search needs
 
-spent-requires : tie.Need-spent-requires Inv-loop μ-loop
-spent-requires c κs = search needs
+stop-number-requires : tie.Need-stop-number-requires Inv-loop μ-loop
+stop-number-requires c κs = search needs
 
-is-budget-requires : tie.Need-is-budget-requires Inv-loop μ-loop
-is-budget-requires c κs = search needs
+counted-requires : tie.Need-counted-requires Inv-loop μ-loop
+counted-requires c κs = search needs
 
-loop-less : tie.Need-loop-less Inv-loop μ-loop
-loop-less c = search needs
+reported-requires : tie.Need-reported-requires Inv-loop μ-loop
+reported-requires c κs = search needs
 
-loop-again : tie.Need-loop-again Inv-loop μ-loop
-loop-again c = search needs
+goes-on-requires : tie.Need-goes-on-requires Inv-loop μ-loop
+goes-on-requires c κs = search needs
 
-is-answer-requires : tie.Need-is-answer-requires Inv-loop μ-loop
-is-answer-requires c κs = search needs
-
-reached-requires : tie.Need-reached-requires Inv-loop μ-loop
-reached-requires c κs = search needs
-
-slice-aggregate-shown-walk : tie.Need-slice-aggregate-shown-walk Inv-loop μ-loop
-slice-aggregate-shown-walk c = search needs
-
-shown-walk-requires : tie.Need-shown-walk-requires Inv-loop μ-loop
-shown-walk-requires c κs = search needs
-
-is-answer-requires-2 : tie.Need-is-answer-requires-2 Inv-loop μ-loop
-is-answer-requires-2 c κs = search needs
+limit-requires : tie.Need-limit-requires Inv-loop μ-loop
+limit-requires c κs = search needs
 
 told-requires : tie.Need-told-requires Inv-loop μ-loop
 told-requires c κs = search needs
@@ -60,17 +45,14 @@ told-requires c κs = search needs
 returns : tie.Need-returns Inv-loop μ-loop
 returns c = search needs
 
-told-requires-2 : tie.Need-told-requires-2 Inv-loop μ-loop
-told-requires-2 c κs = search needs
+add-i : tie.Need-add-i Inv-loop μ-loop
+add-i c = search needs
 
-returns-2 : tie.Need-returns-2 Inv-loop μ-loop
-returns-2 c = search needs
+loop-less : tie.Need-loop-less Inv-loop μ-loop
+loop-less c = search needs
 
-loop-less-2 : tie.Need-loop-less-2 Inv-loop μ-loop
-loop-less-2 c = search needs
-
-loop-again-2 : tie.Need-loop-again-2 Inv-loop μ-loop
-loop-again-2 c = search needs
+loop-again : tie.Need-loop-again Inv-loop μ-loop
+loop-again c = search needs
 
 slice-aggregate-write-all : tie.Need-slice-aggregate-write-all Inv-loop μ-loop
 slice-aggregate-write-all c = search needs
@@ -78,8 +60,8 @@ slice-aggregate-write-all c = search needs
 write-all-requires : tie.Need-write-all-requires Inv-loop μ-loop
 write-all-requires c κs = search needs
 
-returns-3 : tie.Need-returns-3 Inv-loop μ-loop
-returns-3 c = search needs
+returns-2 : tie.Need-returns-2 Inv-loop μ-loop
+returns-2 c = search needs
 
 pub walk-spec : {M : Type 1} → statement M
 walk-spec =
@@ -89,25 +71,19 @@ walk-spec =
     μ-loop
     fresh-requires
     loop-holds
-    add-turns
     next-seed-requires
     spend-requires
     turn-requires
-    spent-requires
-    is-budget-requires
-    loop-less
-    loop-again
-    is-answer-requires
-    reached-requires
-    slice-aggregate-shown-walk
-    shown-walk-requires
-    is-answer-requires-2
+    stop-number-requires
+    counted-requires
+    reported-requires
+    goes-on-requires
+    limit-requires
     told-requires
     returns
-    told-requires-2
-    returns-2
-    loop-less-2
-    loop-again-2
+    add-i
+    loop-less
+    loop-again
     slice-aggregate-write-all
     write-all-requires
-    returns-3)
+    returns-2)
