@@ -20,5 +20,6 @@ unfoldable pub valueAfter : ℕ → List ℕ → ℕ
 valueAfter v [] = v
 valueAfter v (d ∷ l) = valueAfter (10 * v + (d - 48)) l
 
+-- the number that decimal digits tell
 abbrev pub value : List ℕ → ℕ
 value l = valueAfter 0 l

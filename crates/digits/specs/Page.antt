@@ -15,6 +15,7 @@ pub record Page : Type 0 where
   pub place : ℕ
   pub bytes : List ℕ
 
+-- the room l, with the next byte to go to place p
 abbrev pub page : ℕ → List ℕ → Page
 page p l = record { place = p; bytes = l }
 

@@ -13,6 +13,7 @@ use lib.Seq.{getD-drop}
 use borrow.Author.Tests.{ne-eqb, le-leb}
 use Rattle.turns.specs.Turn.{Halt, Turned}
 use Rattle.turns.specs.Chains.{one}
+use Rattle.trees.specs.Signature.{entries}
 use Rattle.checking.specs.declared.Kind.{Kind}
 use Rattle.checking.specs.declared.Stop.{Stop}
 use Rattle.checking.specs.declared.Verdict.{Verdict}
@@ -21,13 +22,12 @@ use Rattle.checking.specs.Stops.{haltTold, verdictTold}
 use Rattle.checking.specs.Rule.{fresh}
 use Rattle.checking.specs.Turn.{turnOf}
 use Rattle.checking.specs.Whole.{WholePromise}
-use Rattle.checked.specs.Yields.{Yields, entries}
-use Rattle.checked.specs.Wholly.{accepted-tree}
+use Rattle.checked.specs.Yields.{Yields}
+use Rattle.checked.specs.Wholly.{accepted-tree, yields-accepted}
 use Rattle.bytes_read.specs.Scans.{haltNumber}
 use Rattle.tag_scan.specs.TagLists.{treeScan, numbersIn}
 use Rattle.retold.specs.Taken.{Bytes}
 use Rattle.retold.specs.Sound.{scan-sound}
-use Rattle.retold.specs.There.{yields-accepted}
 use Rattle.preparing.specs.declared.Started.{Started}
 use Rattle.preparing.specs.Masks.{tableWidth}
 use Rattle.preparing.specs.Preparing.{Preparing}
@@ -54,22 +54,13 @@ scan-yields : (all : Bool) (k : Kind) (b : List ℕ) → Bytes b → haltNumber 
 scan-yields all k b h z =
     let r = scan-sound all (anyName k) (most k) b h 0 z in record { tree = r .tree; grown = r .grown; is = r .numbers }
 
-halt-accepted : (h : Halt) → haltTold h .reason ≡ 1 → verdictTold Verdict.Accepted ≡ haltTold h
-halt-accepted Halt.answer q = absurd (omega arith)
-halt-accepted Halt.end q = refl
-halt-accepted Halt.budget q = absurd (omega arith)
-halt-accepted (Halt.refusal number entry) q = absurd (omega arith)
-
-yields-promise : (k : Kind) (s : List ℕ) → Yields k s → WholePromise k s Verdict.Accepted
-yields-promise k s y = halt-accepted (turnOf k s (2 * most k + 1) fresh .halt) (yields-accepted k s y)
-
 rest-bytes : (b : List ℕ) (k : ℕ) → Bytes b → Bytes (drop k b)
 rest-bytes b k h i = subst (λ (x : ℕ). x < 256) (sym (getD-drop k b i 0)) (h (k + i))
 
 pub question-accepted : (b : List ℕ) → Question b → Accepted (dataOf b) (twigOf (restOf b))
 question-accepted b q = record {
-  data-tree = yields-promise Kind.Data (dataOf b) (scan-yields false Kind.Data b (q .bytes) (q .data-fine));
-  twig = yields-promise Kind.Twig (twigOf (restOf b))
+  data-tree = yields-accepted Kind.Data (dataOf b) (scan-yields false Kind.Data b (q .bytes) (q .data-fine));
+  twig = yields-accepted Kind.Twig (twigOf (restOf b))
       (scan-yields true Kind.Twig (restOf b) (rest-bytes b (dataScan b .state .at) (q .bytes)) (q .twig-fine));
 }
 

@@ -1,7 +1,7 @@
 -- What the listing program prints, on input that is not refused: the first 10,000 loose answers, in order, and how it ended.
 --   More b, All b     what is printed where there are 10,000 answers or more, and where there are fewer
 --   listing-told      it is one of these two
-use Prim.Native.Nat.{ℕ, _+_, _≤_, _<_}
+use Prim.Native.Nat.{ℕ, _+_, _*_, _≤_, _<_}
 use mathlib.Core.Path.{_≡_, refl, ap, _∙_, sym}
 use mathlib.Core.Logic.{_⊎_, inl, inr}
 use mathlib.Core.List.{List, _++_}
@@ -9,14 +9,14 @@ use native.Mathlib.Omega.{arith}
 use lib.ListN.{length, take, replicate, length-append}
 use lib.Seq.{take-append-seam}
 use borrow.Author.Tests.{eq-eqb, le-ltb}
+use Rattle.trees.specs.Signature.{entries}
 use Rattle.checking.specs.declared.Stop.{Stop}
-use Rattle.checked.specs.Yields.{entries}
 use Rattle.walking.specs.declared.WalkTurn.{WalkTurn}
 use Rattle.walking.specs.Walking.{fresh}
 use Rattle.listed.specs.Questions.{Accepted, Prepared, WalkTurns, start}
 use Rattle.listed.specs.Exactly.{allLoose, Listed, loose-exactly}
 use Rattle.lines.specs.Lines.{nodesLine, endLine, moreLine}
-use Rattle.lines.specs.Question.{mostAnswers, tableOf, linesFrom, questionLines}
+use Rattle.lines.specs.Question.{walkBudget, mostAnswers, tableOf, linesFrom, questionLines}
 use Rattle.lines.specs.Listing.{mostBytes, dataFault, dataOf, restOf, twigFault, twigOf, afterData, listing}
 use Rattle.listing_told.specs.Ground.{Question, question-accepted, table-prepared}
 use Rattle.listing_told.specs.Walked.{answerLines, answers, Lines, Stopped, Ended, walk-lines}
@@ -46,6 +46,8 @@ module _ (b : List ℕ) where
     pub last : WalkTurn
     pub turns : WalkTurns s tw table fresh budgets steps last
     pub ended : last .stop ≡ Stop.End
+    -- a turn for each answer and one to the end, each within its budget
+    pub within : steps ≤ mostAnswers * walkBudget
     pub lines : listing b ≡ nodesLine (entries s) (entries tw) ++ (answerLines (allLoose s tw) ++ endLine (length (allLoose s tw)) steps)
 
   module _ (q : Question b) where
@@ -93,6 +95,7 @@ module _ (b : List ℕ) where
               last = x .last;
               turns = x .turns;
               ended = y .stop;
+              within = x .within;
               lines = text ∙ ap (λ (v : List ℕ). nodesLine (entries s) (entries tw) ++ v)
                   (y .lines
                   ∙ ap (λ (v : List (List ℕ)). answerLines v ++ endLine (0 + length v) (0 + x .took)) w

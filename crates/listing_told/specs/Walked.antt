@@ -10,10 +10,10 @@ use native.Mathlib.Omega.{arith}
 use native.Mathlib.Nat.{add-zero, mul-le-mul}
 use lib.ListN.{length, take}
 use Rattle.turns.specs.Chains.{one, more}
+use Rattle.trees.specs.Signature.{entries}
 use Rattle.walks.specs.Chained.{told}
 use Rattle.checking.specs.declared.Kind.{Kind}
 use Rattle.checking.specs.declared.Stop.{Stop}
-use Rattle.checked.specs.Yields.{entries}
 use Rattle.checked.specs.Wholly.{accepted-tree}
 use Rattle.walking.specs.declared.Walk.{Walk}
 use Rattle.walking.specs.declared.WalkTurn.{WalkTurn}
@@ -24,7 +24,7 @@ use Rattle.listed.specs.Exactly.{walk-within}
 use Rattle.listed.specs.Cases.{walkBack, walk-handed}
 use Rattle.lines.specs.Lines.{answerLine, endLine, moreLine}
 use Rattle.lines.specs.Question.{walkBudget, turnOf, linesFrom}
-use Rattle.lines.proofs.Turns.{lines-answer, lines-end, lines-none}
+use Rattle.lines.proofs.Turns.{steps-most, lines-answer, lines-end, lines-none}
 
 -- the lines of answers
 unfoldable pub answerLines : List (List ℕ) → List ℕ
@@ -58,11 +58,13 @@ module _ (s tw table : List ℕ) where
     pub lines : linesFrom s tw table left count steps w
         ≡ answerLines (answers c) ++ endLine (count + length (answers c)) (steps + K)
 
+  -- turns of the walk whose answers are the lines printed from w on: as many as may be printed and `more`, or fewer and `end`
   pub record Lines (left count steps : ℕ) (w : Walk) : Type 0 where
     pub budgets : ℕ
     pub took : ℕ
     pub last : WalkTurn
     pub turns : WalkTurns s tw table w budgets took last
+    pub within : took ≤ left * walkBudget
     pub came : Stopped left count steps w turns ⊎ Ended left count steps w turns
 
   module _ (accepted : Accepted s tw) (prepared : Prepared s tw table) where
@@ -86,6 +88,10 @@ module _ (s tw table : List ℕ) where
       arrived : (r .stop ≡ Stop.Answer) ⊎ (r .stop ≡ Stop.End)
       arrived = walk-within s tw accepted table prepared way (one {b = walkBudget} p) tt .arrives budget-enough
 
+      -- no turn takes more than its budget
+      afforded : r .steps ≤ walkBudget
+      afforded = steps-most s tw table walkBudget w
+
       -- the turn came to the end
       at-end : (left : ℕ) → r .stop ≡ Stop.End → Lines (suc left) count steps w
       unfolding told answerLines
@@ -96,6 +102,7 @@ module _ (s tw table : List ℕ) where
             took = r .steps;
             last = r;
             turns = one {b = walkBudget} p;
+            within = omega (arith, afforded);
             came = inr (record {
               stop = q;
               few = rw n (omega arith);
@@ -116,6 +123,7 @@ module _ (s tw table : List ℕ) where
             took = r .steps;
             last = r;
             turns = one {b = walkBudget} p;
+            within = omega (arith, afforded);
             came = inl (record {
               many = ap length n;
               lines = lines-answer s tw table 0 count steps w r p q
@@ -133,6 +141,7 @@ module _ (s tw table : List ℕ) where
         took = r .steps + x .took;
         last = x .last;
         turns = more {b = walkBudget} {r = r} p (x .turns);
+        within = omega (arith, afforded, x .within);
         came = by (x .came);
       }
         where
