@@ -1,0 +1,3 @@
+pub mod Ordered
+pub mod Prepare
+pub mod Walk
