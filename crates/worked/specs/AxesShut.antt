@@ -18,6 +18,7 @@ use Rattle.trees.specs.Nodes.{Node, here, under, beside}
 use Rattle.trees.specs.Ranks.{pre}
 use Rattle.trees.specs.Signature.{cell}
 use Rattle.trees.specs.Order.{lt-or-ge}
+use Rattle.trees.specs.Names.{passes}
 use Rattle.checking.specs.declared.Kind.{Kind}
 use Rattle.checking.specs.declared.Refusal.{Refusal}
 use Rattle.checking.specs.declared.Written.{Written}
@@ -27,11 +28,12 @@ use Rattle.checking.specs.Stops.{Answered, worked, refusedAs, answered}
 use Rattle.checked.specs.Yields.{Words, Yields}
 use Rattle.checked.specs.Menus.{ten}
 use Rattle.xpath.specs.Select.{upTo, some, rises, within}
-use Rattle.xpath.specs.Axes.{met, parentOf, ancestorOrSelf, wholeBefore, siblingBefore, onAxis, passes, chosen, pth, kept}
+use Rattle.xpath.specs.Axes.{met, parentOf, ancestorOrSelf, wholeBefore, siblingBefore, onAxis, chosen, pth, kept}
 use Rattle.xpath.specs.OnNodes.{InOrder, Lists, InUnion}
 use Rattle.xpath.specs.NodeLists.{lists-unique}
 use Rattle.blocks.specs.Checked.{afterCheck}
-use Rattle.marks.specs.Axis.{argumentsFine, roomFor, axisWithin, AxisPromise}
+use Rattle.checking.specs.Room.{roomFor}
+use Rattle.marks.specs.Axis.{argumentsFine, axisWithin, AxisPromise}
 use Rattle.axes_told.specs.Xpath.{Answers, axis-is-xpath}
 use Rattle.worked.specs.Instances.{tenTree, ten-yields, ten-words}
 
@@ -72,12 +74,12 @@ one-order x = ((λ y m. absurd (List·Memᴰ·not-nil m)), tt)
 child-promise : AxisPromise ten (map pre (two ∷ [])) 1 0 0 (99 ∷ 99 ∷ []) (Written.Length 2) (3 ∷ 6 ∷ [])
 unfolding pre run turnWithin lengthFault inRange stepOf closeOf nameless secondRoot accepted cell
     upTo some rises within met parentOf ancestorOrSelf wholeBefore siblingBefore onAxis passes chosen pth kept afterCheck argumentsFine roomFor axisWithin
-child-promise = record { said = refl; left = refl }
+child-promise = record { told = refl; left = refl }
 
 following-promise : AxisPromise ten (map pre (seven ∷ [])) 7 0 0 [] (Written.Length 0) []
 unfolding pre run turnWithin lengthFault inRange stepOf closeOf nameless secondRoot accepted cell
     upTo some rises within met parentOf ancestorOrSelf wholeBefore siblingBefore onAxis passes chosen pth kept afterCheck argumentsFine roomFor axisWithin
-following-promise = record { said = refl; left = refl }
+following-promise = record { told = refl; left = refl }
 
 -- axis-is-xpath on Ten: the children of 2
 pub ten-child : (l : List (Node (whole tenTree))) × Lists (InUnion 1 0 0 (two ∷ [])) l × Answers ten ten-words ten-yields (99 ∷ 99 ∷ []) (Written.Length 2) (3 ∷ 6 ∷ []) l

@@ -35,13 +35,16 @@ use Rattle.worked.specs.Instances.{tenTree, ten-yields, ten-words}
 
 -- ---- the demands
 
+-- on a tree's signature, the call gives each element "the number of its ancestors"
 abbrev pub DemandLevel : (List ℕ → ℕ → LevelAnswer) → Type 0
 DemandLevel call = (s : List ℕ) (w : Words s) (y : Yields Kind.Data s) (x : Node (whole (y .tree))) → call s (pre x) ≡ LevelAnswer.Level (levelOf x)
 
+-- on a tree's signature, the call gives the place of the numbers of each element and all below it
 abbrev pub DemandPlace : (List ℕ → ℕ → PlaceAnswer) → Type 0
 DemandPlace call =
     (s : List ℕ) (w : Words s) (y : Yields Kind.Data s) (x : Node (whole (y .tree))) → call s (pre x) ≡ PlaceAnswer.Numbers (4 * (pre x - 1)) (4 * (1 + heldBy x))
 
+-- on a tree's signature, the call "hands back that part of the lent numbers"
 abbrev pub DemandBlock : (List ℕ → ℕ → List ℕ) → Type 0
 DemandBlock call =
     (s : List ℕ) (w : Words s) (y : Yields Kind.Data s) (x : Node (whole (y .tree))) → call s (pre x) ≡ take (4 * (1 + heldBy x)) (drop (4 * (pre x - 1)) s)

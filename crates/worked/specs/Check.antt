@@ -21,6 +21,7 @@ turned t =
 abbrev pub checked : List ℕ → List ℕ → Case
 checked s wanted = record { got = turned (turnOf Kind.Data s 8193 fresh); wanted = wanted }
 
+-- Ten is accepted in 20 steps and the one entry in 2; the three faulty lists are refused 4, 5 and 6, each at entry 2
 abbrev pub cases : List Case
 cases =
     checked ten (1 ∷ 0 ∷ 0 ∷ 20 ∷ 11 ∷ 0 ∷ 10 ∷ [])

@@ -8,7 +8,7 @@ use lib.ListN.{getD}
 use Rattle.turns.specs.Turn.{Halt, Turned, run, Steps}
 use Rattle.turns.specs.Chains.{one, more}
 use Rattle.trees.specs.Tree.{Forest, none, elem, Tree, Allowed}
-use Rattle.trees.specs.Signature.{cell, entriesOf, width}
+use Rattle.trees.specs.Signature.{cell, entriesOf, width, entries}
 use Rattle.checking.specs.declared.Kind.{Kind}
 use Rattle.checking.specs.declared.CheckState.{CheckState}
 use Rattle.checking.specs.declared.CheckTurn.{CheckTurn}
@@ -19,7 +19,7 @@ use Rattle.checking.specs.Rule.{fresh, Ranges, stepOf, closeOf, accepted, namel
 use Rattle.checking.specs.Turn.{TurnPromise, turnOf, turnWithin, lengthFault}
 use Rattle.checking.specs.Whole.{WholePromise}
 use Rattle.checking.proofs.Cases.{fresh-ranges}
-use Rattle.checked.specs.Yields.{Words, Yields, Turns, entries}
+use Rattle.checked.specs.Yields.{Words, Yields, Turns}
 use Rattle.checked.specs.Chained.{Fits}
 use Rattle.checked.specs.Wholly.{handed, handed-is, accepted-exactly, check-two-n, whole-exactly, accepted-tree, AcceptedTree, tree-unique, never-refused}
 use Rattle.checked.specs.Public.{one-result, one-verdict, cut-anywhere, cut-kept, count-unique, stops-before-the-fault, BeforeFault, refused-early, chain-verdict, handed-back-in-range, step-as-written}
@@ -31,6 +31,7 @@ use Rattle.checked.specs.Menus.{ten, wrongPost}
 pub allowed : (a : ℕ) → a < 65535 → Allowed false (suc a)
 allowed a h = record { code = omega arith; some = λ z. omega arith }
 
+-- Ten as a tree of names
 abbrev pub tenTree : Tree
 tenTree = record {
   name = 1;
@@ -63,9 +64,11 @@ ten-words = small-words ten refl
 
 -- ---- a chain of two public turns on Ten
 
+-- the first turn: 3 steps from the fresh state
 abbrev pub first : CheckTurn
 first = handed (turnOf Kind.Data ten 3 fresh)
 
+-- the second turn: from the state that the first handed back, with more than enough to spend
 abbrev pub last : CheckTurn
 last = handed (turnOf Kind.Data ten 8190 (turnOf Kind.Data ten 3 fresh .state))
 
@@ -117,6 +120,7 @@ ten-one r p = one-result Kind.Data ten 3 fresh r first p (handed-is (turnOf Kind
 
 -- ---- a fault, on 5,1,3,0; 5,2,3,1
 
+-- "Entries 5,1,3,0; 5,2,3,1", checked in one turn
 abbrev pub faulty : CheckTurn
 faulty = handed (turnOf Kind.Data wrongPost 9 fresh)
 
@@ -165,6 +169,7 @@ ten-verdict v p = one-verdict Kind.Data ten v Verdict.Accepted p ten-whole
 
 -- ---- a twig of one node with name 0, which no data tree may have
 
+-- "Code 0 stands for any name, in a twig or a name test only."
 abbrev pub anyNode : List ℕ
 anyNode = 0 ∷ 1 ∷ 2 ∷ 0 ∷ []
 

@@ -2,12 +2,13 @@
 use Prim.Native.Nat.{ℕ}
 use mathlib.Core.List.{List, [], _∷_}
 use Rattle.checked.specs.Menus.{ten, five, tarts, fork, ones}
-use Rattle.ordered.specs.Promise.{Left, orderedOf}
+use Rattle.checking.specs.Room.{Left}
+use Rattle.ordered.specs.Promise.{orderedOf}
 use Rattle.worked.specs.Case.{Case}
 
 -- a call in numbers
 abbrev pub left : Left → List ℕ
-left l = l .told .refused ∷ l .told .number ∷ l .told .length ∷ l .told .entry ∷ l .room
+left l = l .answer .refused ∷ l .answer .number ∷ l .answer .length ∷ l .answer .entry ∷ l .room
 
 -- the twig w asked of s for what comes after g, with a lent room
 abbrev pub asked : List ℕ → List ℕ → List ℕ → List ℕ → List ℕ → Case

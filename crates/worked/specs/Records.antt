@@ -1,15 +1,14 @@
 -- Ten and Five there and back: as tag lists and as signature records. Each case is what the call's promise cites, evaluated: whether it refused, number,
 -- length and entry, and then what a room one longer than the result holds.
-use Prim.Native.Nat.{ℕ, suc, _/_}
-use mathlib.Core.Bool.{true, false}
+use Prim.Native.Nat.{ℕ, suc, _*_}
 use mathlib.Core.List.{List, [], _∷_, _++_}
-use lib.ListN.{length, replicate}
+use lib.ListN.{length, replicate, take}
+use Rattle.trees.specs.Signature.{entries}
 use Rattle.checking.specs.declared.Kind.{Kind}
 use Rattle.checked.specs.Menus.{ten}
-use Rattle.bytes_read.specs.Scans.{haltNumber}
-use Rattle.bytes_read.specs.Room.{Left, leftBy}
-use Rattle.records.specs.Records.{recordsScan, numbersFrom, bytesFrom, writeFault}
-use Rattle.tag_scan.specs.TagLists.{treeScan, numbersIn}
+use Rattle.checking.specs.Room.{Left}
+use Rattle.records.specs.Records.{readLeft, writeLeft}
+use Rattle.tag_lists.specs.Readers.{tagsLeft}
 use Rattle.tag_writing.specs.TagsBack.{backLeft}
 use Rattle.worked.specs.Case.{Case}
 
@@ -42,7 +41,7 @@ done result = 0 ∷ 0 ∷ length result ∷ 0 ∷ (result ++ (9 ∷ []))
 -- a tag list read as a signature, and a signature written as a tag list
 abbrev there : List ℕ → List ℕ → Case
 there b s = record {
-  got = left (leftBy (haltNumber (treeScan true false 4096 b 0 .halt)) 0 (numbersIn b 0 (treeScan true false 4096 b 0 .state .count)) (room s));
+  got = left (tagsLeft Kind.Data b (room s));
   wanted = done s;
 }
 
@@ -52,10 +51,10 @@ back s b = record { got = left (backLeft Kind.Data s (room b)); wanted = done b 
 -- the same for signature records, written and read back
 abbrev records : List ℕ → Case
 records s = record {
-  got = left (leftBy (haltNumber (recordsScan (bytesFrom s 0 (length s / 4)) .halt)) 0
-      (numbersFrom (bytesFrom s 0 (length s / 4)) 0 (recordsScan (bytesFrom s 0 (length s / 4)) .state .count)) (room s));
+  got = left (readLeft (take (10 * entries s) (writeLeft s (replicate (10 * entries s) 9) .room)) (room s));
   wanted = done s;
 }
 
+-- Ten and Five from tag list to signature and back, and as signature records written and read back
 abbrev pub cases : List Case
 cases = there tenTags ten ∷ back ten tenTags ∷ there fiveTags five ∷ back five fiveTags ∷ records ten ∷ records five ∷ []
