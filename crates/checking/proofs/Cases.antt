@@ -4,8 +4,10 @@
 --   step-…         the whole step
 --   accepted-…     the end
 --   range-…        the ranges of a saved state; fresh-ranges
+--   entry-ends     where an entry ends
 --   number-…       a number past the end, and of entry 0
-use Prim.Native.Nat.{ℕ, _+_, _-_, _≤_, _<_}
+use Prim.Native.Nat.{ℕ, zero, suc, _+_, _-_, _*_, _≤_, _<_}
+use native.Mathlib.Nat.{not-suc-le-zero, mul-suc}
 use native.Mathlib.Omega.{arith}
 use mathlib.Core.Path.{_≡_, refl, ap, sym, _∙_}
 use mathlib.Core.List.{List}
@@ -143,6 +145,11 @@ pub fresh-ranges : (n : ℕ) → Ranges n fresh
 fresh-ranges n = record { some = omega arith; last = omega arith; top = omega arith; closed = omega arith }
 
 -- ---- entries
+
+-- entry i ends where its w numbers do
+pub entry-ends : (w i : ℕ) → 1 ≤ i → w * i ≡ w * (i - 1) + w
+entry-ends w zero h = absurd (not-suc-le-zero h)
+entry-ends w (suc i) h = mul-suc w i ∙ ap (λ (x : ℕ). w * x + w) (omega arith)
 
 -- past the end a number is 0
 pub number-past : (s : List ℕ) (at : ℕ) → length s ≤ at → 0 ≡ getD s at 0

@@ -22,8 +22,11 @@ use Rattle.checking.specs.Rule.{stepOf, accepted, Ranges, inRange, fresh
 use Rattle.checking.specs.Turn.{runOf, spentOf, lengthFault, turnWithin, turnOf, refusedAt}
 use Rattle.checking.specs.Whole.{wholeOf}
 use Rattle.checking.specs.declared.Kind.{Kind}
+use Rattle.checking.specs.declared.Stop.{Stop}
+use Rattle.checking.specs.declared.Verdict.{Verdict}
+use Rattle.checking.specs.declared.Refusal.{Refusal}
 use Rattle.checking.specs.Kinds.{most}
-use Rattle.checking.specs.Stops.{haltTold}
+use Rattle.checking.specs.Stops.{Told, told, haltTold, verdictTold}
 use Rattle.checking.proofs.Cases.{range-yes, fresh-ranges}
 use Rattle.checking.proofs.Inverse.{step-ranges, step-grows, step-silent}
 
@@ -149,6 +152,17 @@ whole-stops any most s = go (ℕ-discrete (lengthFault most width (length s)) 0)
         rw (turn-run any most s (2 * most + 1) fresh h (range-yes n fresh (fresh-ranges n)))
         (stops any n (entriesOf width s) (2 * most + 1) _ (omega (arith, z .some, z .even)) (omega (arith, z .small))
         (turn-outcome CheckState (accepted n) (stepOf any n (entriesOf width s)) (2 * most + 1) fresh))
+
+-- ---- verdicts
+
+-- a stop reason that is no refusal, of the whole check, is the end
+pub stop-accepted : (x : Stop) (h : Halt) → told x ≡ haltTold h → (h ≡ Halt.end) ⊎ ((number : ℕ) × (entry : ℕ) × (h ≡ Halt.refusal number entry))
+    → ((r : Refusal) → x ≡ Stop.Refused r → ⊥) → verdictTold Verdict.Accepted ≡ haltTold h
+stop-accepted x h q (inl e) n = rw e
+stop-accepted Stop.Answer h q (inr e) n = let w = rw (e .2) at q in let z : _≡_ {A = ℕ} 0 3 = ap (λ (t : Told). t .reason) w in absurd (omega arith)
+stop-accepted Stop.End h q (inr e) n = let w = rw (e .2) at q in let z : _≡_ {A = ℕ} 1 3 = ap (λ (t : Told). t .reason) w in absurd (omega arith)
+stop-accepted Stop.Budget h q (inr e) n = let w = rw (e .2) at q in let z : _≡_ {A = ℕ} 2 3 = ap (λ (t : Told). t .reason) w in absurd (omega arith)
+stop-accepted (Stop.Refused r) h q (inr e) n = absurd (n r refl)
 
 -- the whole check, by a budget that is told in another way
 pub whole-told : (k : Kind) (s : List ℕ) (m : ℕ) → m ≡ most k → haltTold (turnOf k s (2 * m + 1) fresh .halt) ≡ wholeOf k s

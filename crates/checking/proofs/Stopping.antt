@@ -1,27 +1,24 @@
 -- How a turn of the check starts and stops, in plain numbers.
 --   here-…, reason-…, spent-told   what stops a check that may take no step
 --   told-…                 a stop reason by its numbers
---   whole-refused          a whole check that has not ended is refused
 --   start-…, turn-refused, turn-started   how a turn starts
 use Prim.Native.Nat.{ℕ, _+_, _-_, _/_, _%_, _≤_}
 use native.Mathlib.Omega.{arith}
-use native.Mathlib.Decide.{ℕ-discrete}
 use mathlib.Core.Path.{_≡_, refl, ap, sym, _∙_}
 use mathlib.Core.List.{List}
-use mathlib.Core.Logic.{_⊎_, inl, inr}
-use mathlib.Core.Bool.{Bool, true, false, not, _&&_, false≢true}
+use mathlib.Core.Bool.{Bool, true, false, _&&_, false≢true}
 use lib.ListN.{length}
 use lib.Dec.{eqb}
 use borrow.Author.Tests.{eq-eqb, ne-eqb, eqb-true, eqb-false}
 use Rattle.turns.specs.Pick.{pick}
-use Rattle.turns.specs.Turn.{refused, Turned, Halt}
+use Rattle.turns.specs.Turn.{Turned, Halt}
 use Rattle.trees.specs.Signature.{entriesOf, width}
 use Rattle.checking.specs.declared.CheckState.{CheckState}
 use Rattle.checking.specs.declared.Kind.{Kind}
 use Rattle.checking.specs.declared.steps.Reached.{Reached}
 use Rattle.checking.specs.Kinds.{most}
 use Rattle.checking.specs.Rule.{at, accepted, Ranges, inRange}
-use Rattle.checking.specs.Stops.{Told, haltTold}
+use Rattle.checking.specs.Stops.{haltTold}
 use Rattle.checking.specs.Turn.{lengthFault, turnWithin, runOf, refusedAt}
 use Rattle.checking.specs.Plain.{reasonHere, toldAs, Reaches, startFault}
 use Rattle.checking.proofs.Cases.{range-inverse}
@@ -88,21 +85,6 @@ module _ (reason number entry : ℕ) where
 
     pub told-refused : (reason ≡ 2 → ⊥) → toldAs reason number entry ≡ record { reason = 3; number = number; entry = entry }
     told-refused q = simp (ne-eqb _ _ h, ne-eqb _ _ q)
-
--- ---- the whole check
-
--- what ends or refuses, and has not ended, is refused by these numbers
-pub whole-refused : (reason number entry : ℕ) (h : Halt) → toldAs reason number entry ≡ haltTold h
-    → (h ≡ Halt.end) ⊎ ((u : ℕ) × (v : ℕ) × (h ≡ Halt.refusal u v)) → (reason ≡ 1 → ⊥) → record { reason = 3; number = number; entry = entry } ≡ haltTold h
-whole-refused reason number entry h q w f = from (ℕ-discrete reason 2) w
-  where
-    spent : reason ≡ 2 → record { reason = 2; number = 0; entry = 0 } ≡ haltTold h
-    spent g = sym (told-budget reason number entry f g) ∙ q
-
-    from : Dec (reason ≡ 2) → (h ≡ Halt.end) ⊎ ((u : ℕ) × (v : ℕ) × (h ≡ Halt.refusal u v)) → record { reason = 3; number = number; entry = entry } ≡ haltTold h
-    from (no g) e = sym (told-refused reason number entry f g) ∙ q
-    from (yes g) (inl e) = let z : _≡_ {A = ℕ} 2 1 = ap (λ (t : Told). t .reason) (rw e at (spent g)) in absurd (omega arith)
-    from (yes g) (inr e) = let z : _≡_ {A = ℕ} 2 3 = ap (λ (t : Told). t .reason) (rw (e .2) at (spent g)) in absurd (omega arith)
 
 -- ---- how a turn starts
 

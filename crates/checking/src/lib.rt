@@ -8,7 +8,7 @@ ghost use Rattle.checking.specs.Kinds.{anyName, most};
 ghost use Rattle.checking.specs.Stops.{told};
 ghost use Rattle.checking.specs.Rule.{at, inRange, fresh};
 ghost use Rattle.checking.specs.Turn.{lengthFault, turnOf, TurnPromise};
-ghost use Rattle.checking.specs.Whole.{WholePromise};
+ghost use Rattle.checking.specs.Whole.{wholeOf, WholePromise};
 ghost use Rattle.checking.specs.Plain.{toldAs, Reaches, startFault};
 
 mod steps;
@@ -232,18 +232,23 @@ impl CheckState {
     }
 }
 
-// The whole check, begun fresh: what is not refused is accepted. One step more than the largest tree takes is never all spent.
-pub fn check_whole(kind: Kind, sig: &[u16]) -> Verdict
-    ensures { λ r. ⌜ WholePromise kind (now (sig .entry)) r ⌝ }
+// What stops a check begun fresh. One step more than the largest tree takes is never all spent.
+fn whole_stop(kind: Kind, sig: &[u16]) -> Stop
+    ensures { λ r. ⌜ told r ≡ wholeOf kind (now (sig .entry)) ⌝ }
 {
     let most = kind.most() as u64;
     let budget = 2 * most + 1;
     let reached = reach(kind, sig, budget, 1, 0, 0);
-    if reached.reason == ENDED {
+    stop_of(reached.reason, reached.number, reached.entry)
+}
+
+// The whole check: what is not refused is accepted.
+pub fn check_whole(kind: Kind, sig: &[u16]) -> Verdict
+    ensures { λ r. ⌜ WholePromise kind (now (sig .entry)) r ⌝ }
+{
+    let stop = whole_stop(kind, sig);
+    let Stop::Refused(refusal) = stop else {
         return Verdict::Accepted;
-    }
-    Verdict::Refused(Refusal {
-        number: reached.number,
-        entry: PreRank(reached.entry),
-    })
+    };
+    Verdict::Refused(refusal)
 }

@@ -31,13 +31,13 @@ pub struct Reached {
     pub entry: u16,
 }
 
-// Number k of entry i.
-fn number(sig: &[u16], i: u16, k: usize) -> u16
-    requires { ⌜ (1 ≤ i) × (k < width) × (width * i ≤ length (now sig)) ⌝ }
-    ensures { λ r. ⌜ r ≡ cell width (now (sig .entry)) i k ⌝ }
+// Number k of entry i, where an entry has wide numbers.
+fn number(sig: &[u16], wide: usize, i: u16, k: usize) -> u16
+    requires { ⌜ (1 ≤ i) × (k < wide) × (wide * i ≤ length (now sig)) ⌝ }
+    ensures { λ r. ⌜ r ≡ cell wide (now (sig .entry)) i k ⌝ }
 {
     let at = i as usize;
-    sig[4 * (at - 1) + k]
+    sig[wide * (at - 1) + k]
 }
 
 // Whether entry i has name 0 where that is refused.
@@ -45,7 +45,7 @@ fn is_nameless(sig: &[u16], i: u16, any_name: bool) -> bool
     requires { ⌜ (1 ≤ i) × (width * i ≤ length (now sig)) ⌝ }
     ensures { λ r. ⌜ «r» ≡ nameless «any_name» (entriesOf width (now (sig .entry))) i ⌝ }
 {
-    !any_name & (number(sig, i, 0) == 0)
+    !any_name & (number(sig, 4, i, 0) == 0)
 }
 
 // Whether fa cannot be the parent of entry i: it does not come before i, or i would be a second root.
@@ -64,7 +64,7 @@ fn entry_fault(sig: &[u16], n: u16, any_name: bool, i: u16) -> u16
         0
     } else if is_nameless(sig, i, any_name) {
         NAMELESS
-    } else if is_no_parent(i, number(sig, i, 3)) {
+    } else if is_no_parent(i, number(sig, 4, i, 3)) {
         NOT_OPEN
     } else {
         0
@@ -78,7 +78,7 @@ fn opens(sig: &[u16], n: u16, i: u16, top: u16) -> u16
 {
     if n < i {
         0
-    } else if number(sig, i, 3) == top {
+    } else if number(sig, 4, i, 3) == top {
         1
     } else {
         0
@@ -96,15 +96,15 @@ fn close_fault(sig: &[u16], i: u16, top: u16, closed: u16) -> u16
     if closed == i - 1 {
         return BAD_STATE;
     }
-    let post = number(sig, top, 1);
+    let post = number(sig, 4, top, 1);
     if post != closed + 1 {
         return WRONG_POST;
     }
-    let ff = number(sig, top, 2);
+    let ff = number(sig, 4, top, 2);
     if ff != i {
         return WRONG_FF;
     }
-    let up = number(sig, top, 3);
+    let up = number(sig, 4, top, 3);
     if up < top { 0 } else { NOT_OPEN }
 }
 
@@ -147,7 +147,11 @@ fn top_after(sig: &[u16], opening: u16, i: u16, top: u16) -> u16
     requires { ⌜ (width * top ≤ length (now sig)) × ((opening ≡ 1 → ⊥) → 1 ≤ top) ⌝ }
     ensures { λ r. ⌜ r ≡ topAfter opening i (entriesOf width (now (sig .entry)) .fa top) ⌝ }
 {
-    if opening == 1 { i } else { number(sig, top, 3) }
+    if opening == 1 {
+        i
+    } else {
+        number(sig, 4, top, 3)
+    }
 }
 
 // What stops the check here if no step is left to it: the end, where the check has come to it, or the budget.
