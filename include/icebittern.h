@@ -27,7 +27,12 @@
  * It returns the refusal's number where out[0] is IB_REFUSED, else 0. The saved state is rewritten by the steps it took and by nothing else: a turn
  * that is refused leaves the state after the steps before the faulty one.
  *
- * A list is a pointer and a length. The pointer of an empty list is not null. Lent lists do not overlap, but for two that are only read.
+ * The order of refusals, the first that applies: for each record mark, length, name and nesting, then a count over the limit; for a signature its
+ * length (1, then 7), its contents from the front, arguments (8), the saved state (9), room (10). A twig is checked whole before the signature's length.
+ *
+ * A list is a pointer and a length; `state` and `out` point to as many numbers as their brackets say, which nothing checks. No pointer is null, the one
+ * of an empty list neither, and each is aligned for its type. What is lent does not overlap, but for two lists that are only read. A number handed in
+ * has the bits of its type: C cuts a greater one before the call sees it.
  */
 #ifndef ICEBITTERN_H
 #define ICEBITTERN_H
@@ -78,7 +83,8 @@ uint16_t ib_tags_to_signature(uint16_t kind, const uint8_t *bytes, size_t bytes_
 uint16_t ib_signature_to_tags(uint16_t kind, const uint16_t *sig, size_t sig_len, uint8_t *room, size_t room_len, uint64_t out[2]);
 
 /* A turn of the check, one element opened or closed a step. The state is: the next entry, the innermost open element (0 for none), the number
- * closed. A check begins with 1, 0, 0. It is accepted, out[0] IB_END, in exactly 2*n steps, and exactly if a tree yields the signature.
+ * closed; next is 1 to n+1, and the other two are below it. A check begun with 1, 0, 0, with the same signature and kind in every turn and a state that
+ * nobody altered, is accepted, out[0] IB_END, in exactly 2*n steps, and exactly if a tree yields the signature. A finished check says so at every budget.
  * out: what stopped it; steps; entry. Refuses 1, 3 (kind IB_DATA only), 4, 5, 6, 7, 9. */
 uint16_t ib_check_turn(uint16_t kind, const uint16_t *sig, size_t sig_len, uint16_t state[3], uint64_t budget, uint64_t out[3]);
 
@@ -97,16 +103,17 @@ uint16_t ib_axis(const uint16_t *sig, size_t sig_len, const uint16_t *contexts, 
                  uint16_t position, uint16_t *room, size_t room_len, uint64_t out[2]);
 
 /* The smallest ordered answer of the twig that is greater than `tuple`: m numbers, each 0 to n. Begin with zeros, and hand each answer back for the
- * next. out: m, or 0 for none; the entry that 3 to 6 name (4 to 6 may be the twig's). Refuses 1, 3, 4, 5, 6, 7, 8, 10. */
+ * next, copied, since tuple and room do not overlap. out: m, or 0 for none; the entry that 3 to 6 name (4 to 6 may be the twig's). Refuses 1, 3, 4, 5, 6, 7, 8, 10. */
 uint16_t ib_ordered_next(const uint16_t *sig, size_t sig_len, const uint16_t *twig, size_t twig_len, const uint16_t *tuple, size_t tuple_len,
                          uint16_t *room, size_t room_len, uint64_t out[2]);
 
 /* Begins preparing for a signature of n entries: sets the first 2*n numbers of the table to zero. The table has two numbers an entry: can, below.
- * out: the fresh state, n. Refuses 1, 7, 10. */
+ * out: the fresh state, n, for state[0] of the first turn. Refuses 1, 7, 10. */
 uint16_t ib_prepare_start(uint64_t n, uint16_t *table, size_t table_len, uint64_t out[1]);
 
-/* A turn of preparing. The state is the next entry, from n down to 0 when done; n steps in all. The twig is checked whole, the signature is not: its
- * faults are met step by step. out: what stopped it; steps; the entry of the twig that 4 to 6 name. Refuses 1, 4, 5, 6, 7, 9, 10, 11. */
+/* A turn of preparing. The state is the next entry, from n down to 0 when done; n steps in all from the fresh state, unless one is refused. A step
+ * writes can of its entry and joins it into below of the entry's fa. The twig is checked whole, the signature is not: its faults are met step by step.
+ * out: what stopped it; steps; the entry of the twig that 4 to 6 name. Refuses 1, 4, 5, 6, 7, 9, 10, 11. */
 uint16_t ib_prepare_turn(const uint16_t *sig, size_t sig_len, const uint16_t *twig, size_t twig_len, uint16_t *table, size_t table_len,
                          uint16_t state[1], uint64_t budget, uint64_t out[3]);
 
@@ -115,7 +122,8 @@ uint16_t ib_walk_fresh(uint16_t state[19]);
 
 /* A turn of the walk over a prepared table, which stops at each loose answer with IB_ANSWER and at last with IB_END. The state is the sixteen images,
  * then the node, the candidate, and the phase: 0 walking, 1 at an answer, 2 ended. At an answer the first m numbers of the state are its ranks, in
- * twig preorder. At most 2*m*n+1 steps lie between two answers.
+ * twig preorder. If the check accepts the signature, and the table was prepared for it and this twig, at most 2*m*n+1 steps lead from the beginning, and
+ * from each answer, to the next answer or the end.
  * out: what stopped it; steps; the entry of the twig that 4 to 6 name. Refuses 1, 4, 5, 6, 7, 9 (a phase over 2 too), 10, 11. */
 uint16_t ib_walk_turn(const uint16_t *sig, size_t sig_len, const uint16_t *twig, size_t twig_len, const uint16_t *table, size_t table_len,
                       uint16_t state[19], uint64_t budget, uint64_t out[3]);

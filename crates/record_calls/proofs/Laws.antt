@@ -5,9 +5,8 @@ use mathlib.Core.List.{List}
 use Rattle.checking.specs.Room.{Left, Leaves}
 use Rattle.checking.specs.declared.Written.{Written}
 use Rattle.checking.specs.Stops.{answered}
-use Rattle.telling.specs.Numbers.{AnswerTold}
+use Rattle.telling.specs.Numbers.{AnswerTold, LeftNumbers}
 use Rattle.telling.proofs.Laws.{answer-as}
-use Rattle.record_calls.specs.Records.{LeftNumbers}
 
 pub room-left :
     (x y : Left) (w : Written) (after : List ℕ) (r : ℕ) (o : List ℕ) →

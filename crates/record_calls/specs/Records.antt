@@ -1,20 +1,14 @@
 -- Records and tag lists on bare numbers: what is returned, what stands in out and what the room holds are those of what the call answers and leaves.
---   LeftNumbers x …  the numbers of what a call answers and leaves
 --   ReadNumbers …    signature records to numbers: out is the numbers written, 0
 --   WriteNumbers …   a signature to signature records: out is the bytes written, 0
 --   TagsNumbers …    a tag list to a signature: out is the numbers written, 0
 --   BackNumbers …    a signature back to its tag list: out is the bytes written, entry
 use Prim.Native.Nat.{ℕ}
 use mathlib.Core.List.{List}
-use Rattle.checking.specs.Room.{Left}
 use Rattle.records.specs.Records.{readLeft, writeLeft}
 use Rattle.tag_lists.specs.Readers.{tagsLeft}
 use Rattle.tag_writing.specs.TagsBack.{backLeft}
-use Rattle.telling.specs.Numbers.{kindOf, AnswerLeft}
-
--- what a call answers is told by the number returned and by out, and the room is as the call leaves it
-abbrev pub LeftNumbers : Left → ℕ → List ℕ → List ℕ → Type 0
-LeftNumbers x r after out = AnswerLeft (x .answer) (x .room) r after out
+use Rattle.telling.specs.Numbers.{kindOf, LeftNumbers}
 
 -- the promise of reading signature records: out is how many numbers were written, 0
 abbrev pub ReadNumbers : List ℕ → List ℕ → ℕ → List ℕ → List ℕ → Type 0

@@ -7,7 +7,7 @@ use mathlib.Core.List.{List}
 use Rattle.blocks.specs.Level.{levelAnswer}
 use Rattle.blocks.specs.Block.{placeAnswer}
 use Rattle.marks.specs.Axis.{axisAnswer}
-use Rattle.telling.specs.Numbers.{AnswerLeft}
+use Rattle.telling.specs.Numbers.{LeftNumbers}
 use Rattle.telling.specs.Answers.{LeveledSays, PlacedSays}
 
 -- the promise of the level call on bare numbers
@@ -21,4 +21,4 @@ PlaceNumbers s i r out = PlacedSays (placeAnswer s i) r out
 -- the promise of an axis call on bare numbers: out is how many ranks were written, entry; the room is as that call leaves it
 abbrev pub AxisNumbers : List ℕ → List ℕ → ℕ → ℕ → ℕ → List ℕ → ℕ → List ℕ → List ℕ → Type 0
 AxisNumbers s contexts axis name p room r after out =
-    AnswerLeft (axisAnswer s contexts axis name p room .answer) (axisAnswer s contexts axis name p room .room) r after out
+    LeftNumbers (axisAnswer s contexts axis name p room) r after out

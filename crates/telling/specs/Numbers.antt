@@ -4,7 +4,7 @@
 --   outOf t steps              a turn's out: stop, steps, entry
 --   TurnTold t k r out         what stopped a turn and its steps, as the number returned and out tell them
 --   AnswerTold a r out         what a call that writes into lent room answers: the length of the result, entry
---   AnswerLeft a room …        the same, and what the room holds at exit
+--   LeftNumbers x r after out   the same, and the room at exit, of what a call answers and leaves
 use Prim.Native.Nat.{ℕ}
 use mathlib.Core.Path.{_≡_}
 use mathlib.Core.List.{List, [], _∷_}
@@ -12,6 +12,7 @@ use lib.Dec.{eqb}
 use Rattle.turns.specs.Pick.{pick}
 use Rattle.checking.specs.declared.Kind.{Kind}
 use Rattle.checking.specs.Stops.{Told, Answered}
+use Rattle.checking.specs.Room.{Left}
 
 -- 0 a data tree, any other number a twig
 abbrev pub kindOf : ℕ → Kind
@@ -34,7 +35,7 @@ TurnTold t steps r left = Says (t .number) (outOf t steps) r left
 abbrev pub AnswerTold : Answered → ℕ → List ℕ → Type 0
 AnswerTold a r left = Says (a .number) (a .length ∷ a .entry ∷ []) r left
 
--- a call that answers a and leaves this in the lent room
-pub record AnswerLeft (a : Answered) (room : List ℕ) (r : ℕ) (after out : List ℕ) : Type 0 where
-  pub says : AnswerTold a r out
-  pub left : after ≡ room
+-- what a call answers is told by the number returned and by out, and the room is as the call leaves it
+pub record LeftNumbers (x : Left) (r : ℕ) (after out : List ℕ) : Type 0 where
+  pub says : AnswerTold (x .answer) r out
+  pub left : after ≡ x .room

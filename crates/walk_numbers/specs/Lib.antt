@@ -1,1 +1,2 @@
+-- A saved walk as bare numbers.
 pub mod Walk
