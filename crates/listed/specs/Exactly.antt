@@ -5,20 +5,23 @@
 --   all-of, all-unique, all-once   allLoose has just the loose answers, ascending, is the only such list, and has none twice
 --   Listed c r        what the theorem says of a chain c whose last turn answered r
 --   loose-exactly     the answers told along the chain are that list, each once, and all of it where the end is reported
+--   end-steps-once    chains from the fresh walk to the end have taken equally many steps, however they are cut
 --   Within B K r      what the theorem says of turns between
 --   walk-within       from the start, from any answer and from any walk handed back, at most 2×m×n+1 steps
 use Prim.Native.Nat.{ℕ, suc, _+_, _-_, _*_, _≤_}
 use mathlib.Core.Path.{_≡_, refl, ap, _∙_, sym, subst}
 use mathlib.Core.Logic.{_⊎_, inl, inr}
+use mathlib.Core.Bool.{true}
 use mathlib.Core.List.{List, [], _++_, map, reverse, map-append, List·Memᴰ}
 use native.Mathlib.Omega.{arith}
-use Rattle.turns.specs.Turn.{Halt, answer, end, budget, refusal, Turned, Outcome, ended, spent, told as tells, faulty}
+use Rattle.turns.specs.Turn.{Halt, answer, end, budget, refusal, Turned, Steps, Outcome, ended, spent, told as tells, faulty}
 use Rattle.turns.specs.Laws.{turn-outcome}
-use Rattle.turns.specs.Chains.{one, more}
+use Rattle.turns.specs.Chains.{one, more, chain-steps, chain-finished}
 use Rattle.trees.specs.Signature.{entriesOf, width, entries}
 use Rattle.walks.specs.Every.{Pairs}
 use Rattle.walks.specs.Walking as walks
-use Rattle.walks.specs.Walking.{Choices, answersFrom, ahead, walkDone, walkStep}
+use Rattle.walks.specs.Walking.{Choices, walking, atAnswer, atEnd, answersFrom, ahead, walkDone, walkStep}
+use Rattle.walks.specs.Order.{walk-count-unique}
 use Rattle.walks.specs.Preorder.{Smaller}
 use Rattle.walks.specs.Telling as telling
 use Rattle.walks.specs.Telling.{tell, fresh-told, fresh-all, chain-limit}
@@ -54,6 +57,20 @@ chain-unrefused ch c number entry q =
     let l = chain-last walks.Walk walkDone (walkStep ch) c in
     outcome-unrefused ch (turn-outcome walks.Walk walkDone (walkStep ch) (l .0) (l .1)) number entry
     (ap (λ (t : Turned walks.Walk). t .halt) (sym (l .2)) ∙ q)
+
+-- a walk that has ended is at the end
+done-end : (w : walks.Walk) → walkDone w ≡ true → w ≡ atEnd
+done-end (walking r c xs) q = let z : _≡_ {A = ℕ} 0 1 = cc in absurd (omega arith)
+done-end (atAnswer x xs) q = let z : _≡_ {A = ℕ} 0 1 = cc in absurd (omega arith)
+done-end atEnd q = refl
+
+-- so a chain whose last turn reported the end has led there
+chain-to-end : (ch : Choices) {w : walks.Walk} {B K : ℕ} {t : Turned walks.Walk} → telling.WalkTurns ch w B K t → t .halt ≡ end
+    → Steps walks.Walk walkDone (walkStep ch) K w atEnd
+chain-to-end ch {w} {K = K} {t = t} c q =
+    subst (Steps walks.Walk walkDone (walkStep ch) K w)
+    (done-end (t .state) (chain-finished walks.Walk walkDone (walkStep ch) c q))
+    (chain-steps walks.Walk walkDone (walkStep ch) c)
 
 -- the ascending list of all loose answers of the twig tw on the signature s
 abbrev pub allLoose : List ℕ → List ℕ → List (List ℕ)
@@ -157,6 +174,18 @@ module _ (s tw : List ℕ) where
             all = all-of;
             once = all-once;
           }
+
+      -- the number of steps to the end is one number, whatever the budgets of the turns
+      pub end-steps-once : {B C K L : ℕ} {r u : WalkTurn} → WalkTurns s tw left fresh B K r → WalkTurns s tw left fresh C L u
+          → r .stop ≡ Stop.End → u .stop ≡ Stop.End → K ≡ L
+      end-steps-once c d p q =
+          let x = fresh-run s tw g left pr c in
+          let y = fresh-run s tw g left pr d in
+          x .count-same
+          ∙ walk-count-unique (ch s tw g left pr) (rise s tw g left pr)
+          (chain-to-end (ch s tw g left pr) (x .chain) (halt-end (x .last .halt) (sym (x .stop-same) ∙ p)))
+          (chain-to-end (ch s tw g left pr) (y .chain) (halt-end (y .last .halt) (sym (y .stop-same) ∙ q)))
+          ∙ sym (y .count-same)
 
       budgets : {x : walks.Walk} {B K : ℕ} {t : Turned walks.Walk} (c : telling.WalkTurns (ch s tw g left pr) x B K t)
           → AllButLast (λ u. stopOf (u .halt) ≡ Stop.Budget) c → AllButLast (λ u. u .halt ≡ budget) c

@@ -1,5 +1,5 @@
 -- Input that is not refused is a question: its two trees are accepted, and the table is prepared.
---   Question b        neither list of b is refused
+--   Question b        b is bytes, not too long, and neither of its lists is refused
 --   question-accepted the whole check accepts both signatures
 --   table-prepared    start call and one turn of preparing come to the end
 use Prim.Native.Nat.{ℕ, _+_, _*_, _≤_, _<_}
@@ -54,7 +54,7 @@ scan-yields : (all : Bool) (k : Kind) (b : List ℕ) → Bytes b → haltNumber 
 scan-yields all k b h z =
     let r = scan-sound all (anyName k) (most k) b h 0 z in record { tree = r .tree; grown = r .grown; is = r .numbers }
 
-rest-bytes : (b : List ℕ) (k : ℕ) → Bytes b → Bytes (drop k b)
+pub rest-bytes : (b : List ℕ) (k : ℕ) → Bytes b → Bytes (drop k b)
 rest-bytes b k h i = subst (λ (x : ℕ). x < 256) (sym (getD-drop k b i 0)) (h (k + i))
 
 pub question-accepted : (b : List ℕ) → Question b → Accepted (dataOf b) (twigOf (restOf b))

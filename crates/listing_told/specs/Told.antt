@@ -37,7 +37,7 @@ module _ (b : List ℕ) where
     pub lines : listing b ≡ nodesLine (entries s) (entries tw) ++ (answerLines (take mostAnswers (allLoose s tw)) ++ moreLine)
 
   -- "each loose answer as ranks in twig preorder, then `end`, the number of answers and the walk steps": those of public turns from the fresh
-  -- walk over a prepared table to the end
+  -- walk over a prepared table to the end, which is one number, however turns are cut (`end-steps-once` of `listed/Exactly`)
   pub record All : Type 0 where
     pub few : length (allLoose s tw) < mostAnswers
     pub prepared : Prepared s tw table
