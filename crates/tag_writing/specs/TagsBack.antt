@@ -11,13 +11,12 @@ use lib.ListN.{length}
 use lib.Dec.{ltb, eqb}
 use Rattle.turns.specs.Pick.{pick}
 use Rattle.trees.specs.Tree.{Forest, none, elem, Tree}
-use Rattle.trees.specs.Signature.{Entries, cell, entriesOf, width}
+use Rattle.trees.specs.Signature.{Entries, cell, entriesOf, width, entries}
 use Rattle.trees.specs.Tags.{treeTags}
-use Rattle.checking.specs.Stops.{refusedAs}
 use Rattle.checking.specs.Whole.{wholeOf}
 use Rattle.checking.specs.declared.Kind.{Kind}
 use Rattle.checking.specs.declared.Written.{Written}
-use Rattle.checking.specs.Room.{Left, leftBy, Leaves}
+use Rattle.checking.specs.Room.{Left, refusedLeft, leftBy, Leaves}
 use Rattle.tag_scan.specs.TagLists.{tagBytes}
 
 -- an entry's block is what is below it, and the row goes on where the block ends
@@ -29,7 +28,7 @@ rowFrom e (suc k) i j = pick (ltb i j) (elem (e .name i) (rowFrom e k (i + 1) (e
 abbrev pub treeIn : List ℕ → Tree
 treeIn s = record {
   name = cell width s 1 0;
-  below = rowFrom (entriesOf width s) (length s / 4) 2 (cell width s 1 2);
+  below = rowFrom (entriesOf width s) (entries s) 2 (cell width s 1 2);
 }
 
 -- "back to bytes"
@@ -40,7 +39,7 @@ backBytes s = tagBytes (treeTags (treeIn s))
 unfoldable pub backLeft : Kind → List ℕ → List ℕ → Left
 backLeft k s room =
     pick (eqb (wholeOf k s .reason) 1) (leftBy 0 0 (backBytes s) room)
-    (record { answer = refusedAs (wholeOf k s .number) (wholeOf k s .entry); room = room })
+    (refusedLeft room (wholeOf k s .number) (wholeOf k s .entry))
 
 -- the promise of writing a signature as a tag list
 abbrev pub BackPromise : Kind → List ℕ → List ℕ → Written → List ℕ → Type 0
