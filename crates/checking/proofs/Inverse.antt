@@ -3,6 +3,7 @@
 --   step-inverse      a step that was taken is one of them
 --   step-ranges       a step keeps the ranges
 --   step-grows        a step makes next + closed one more
+--   step-before       a step is taken before the end only
 use Prim.Native.Nat.{ℕ, zero, suc, _+_, _-_, _≤_, _<_}
 use mathlib.Core.Path.{_≡_, refl, ap, _∙_, sym}
 use mathlib.Core.Logic.{_⊎_, inl, inr}
@@ -14,7 +15,8 @@ use Rattle.turns.specs.Pick.{pick}
 use Rattle.turns.specs.Turn.{Next, moved, answered, refused}
 use Rattle.trees.specs.Signature.{Entries}
 use Rattle.checking.specs.declared.CheckState.{CheckState}
-use Rattle.checking.specs.Rule.{closeOf, closedOf, openOf, stepOf, nameless, secondRoot, Ranges}
+use Rattle.checking.specs.Rule.{closeOf, closedOf, openOf, stepOf, nameless, secondRoot, accepted, Ranges}
+use Rattle.checking.proofs.Cases.{accepted-next, accepted-top}
 
 -- the step opened the next entry
 pub record Opens (any : Bool) (n : ℕ) (e : Entries) (st to : CheckState) : Type 0 where
@@ -130,3 +132,7 @@ module _ (any : Bool) (n : ℕ) (e : Entries) (st to : CheckState) where
 
   pub step-grows : stepOf any n e st ≡ moved to → to .next .0 + to .closed .0 ≡ st .next .0 + st .closed .0 + 1
   step-grows q = elim (step-inverse q) [ inl o ↦ rw (o .is) (omega arith) | inr c ↦ rw (c .is) (omega arith) ]
+
+  -- no step is taken from the end
+  pub step-before : stepOf any n e st ≡ moved to → accepted n st ≡ false
+  step-before q = elim (step-inverse q) [ inl o ↦ accepted-next n st (omega (arith, o .there)) | inr c ↦ accepted-top n st (c .some-open) ]

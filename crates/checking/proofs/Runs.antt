@@ -13,13 +13,13 @@ use native.Mathlib.Omega.{arith}
 use native.Mathlib.Decide.{ℕ-discrete}
 use borrow.Author.Tests.{le-leb, lt-leb, eq-eqb, ne-eqb, eqb-true, eqb-false, leb-true}
 use Rattle.turns.specs.Pick.{pick}
-use Rattle.turns.specs.Turn.{Halt, Turned, run, Moves, stay, move, Outcome, ended, spent, faulty}
+use Rattle.turns.specs.Turn.{Halt, Turned, Moves, stay, move, Outcome, ended, spent, faulty}
 use Rattle.turns.specs.Turn as Turns
 use Rattle.turns.specs.Laws.{turn-outcome}
 use Rattle.trees.specs.Signature.{Entries, entriesOf, width}
 use Rattle.checking.specs.declared.CheckState.{CheckState}
 use Rattle.checking.specs.Rule.{stepOf, accepted, Ranges, inRange, fresh}
-use Rattle.checking.specs.Turn.{runOf, spentOf, lengthFault, turnWithin, turnOf, refusedAt}
+use Rattle.checking.specs.Turn.{runOf, lengthFault, turnWithin, turnOf, refusedAt}
 use Rattle.checking.specs.Whole.{wholeOf}
 use Rattle.checking.specs.declared.Kind.{Kind}
 use Rattle.checking.specs.declared.Stop.{Stop}
@@ -49,12 +49,6 @@ module _ (any : Bool) (n : ℕ) (e : Entries) where
   stops b t s l (spent m f) =
       let r = moves-ranges (fresh-ranges n) m in
       absurd (omega (arith, moves-grow m, r .last, r .closed))
-
--- a run with no budget left
-pub run-spent : (any : Bool) (n : ℕ) (e : Entries) (b k : ℕ) (st : CheckState) → b ≡ 0
-    → run CheckState (accepted n) (stepOf any n e) b k st ≡ spentOf n st k
-unfolding run
-run-spent any n e b k st h = simp h
 
 -- ---- the length
 
@@ -117,13 +111,6 @@ module _ (any : Bool) (most : ℕ) (s : List ℕ) (b : ℕ) (st : CheckState) wh
     pub turn-run : inRange (length s / width) st ≡ true → turnWithin any most s b st ≡ runOf any (length s / width) (entriesOf width s) b st
     unfolding turnWithin
     turn-run h = simp (eq-eqb _ _ fine, h)
-
--- what the code's test of the length has shown
-pub fault-none : (k : Kind) (l r : ℕ) → r ≡ lengthFault (most k) width l → r ≡ 0 → lengthFault (most k) width l ≡ 0
-fault-none k l r p q = sym p ∙ q
-
-pub fault-sized : (k : Kind) (l r : ℕ) → r ≡ lengthFault (most k) width l → r ≡ 0 → Sized (most k) width l
-fault-sized k l r p q = length-sized (most k) width l (sym p ∙ q)
 
 -- no kind has more than 4,096 elements
 pub most-small : (k : Kind) → most k ≤ 4096

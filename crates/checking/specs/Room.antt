@@ -5,7 +5,6 @@
 --   roomFor room result          the result is written, or refused as 10
 --   leftBy …                     from the refusal before room (0: none) with its entry, the result, and the room at entry
 --   Leaves x w after             the answer and the room at exit are those of x
---   RoomPromise …                the same, from these
 use Prim.Native.Nat.{ℕ}
 use mathlib.Core.Path.{_≡_}
 use mathlib.Core.List.{List, _++_}
@@ -44,7 +43,3 @@ leftBy number entry result room = pick (eqb number 0) (roomFor room result) (ref
 pub record Leaves (x : Left) (w : Written) (after : List ℕ) : Type 0 where
   pub told : answered w ≡ x .answer
   pub left : after ≡ x .room
-
--- the promise of a call that writes into lent room
-abbrev pub RoomPromise : ℕ → ℕ → List ℕ → List ℕ → Written → List ℕ → Type 0
-RoomPromise number entry result room w after = Leaves (leftBy number entry result room) w after

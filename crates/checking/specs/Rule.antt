@@ -6,11 +6,11 @@
 --   secondRoot i up    an entry after the first with no parent
 --   openOf, closeOf    rule 2, and rules 3 and 4
 --   stepOf any n e st  the whole step
-use Prim.Native.Nat.{ℕ, zero, suc, _+_, _-_, _≤_, _<_}
-use mathlib.Core.Bool.{Bool, true, false, not, _&&_}
+use Prim.Native.Nat.{ℕ, _+_, _-_, _≤_, _<_}
+use mathlib.Core.Bool.{Bool, not, _&&_}
 use lib.Dec.{ltb, leb, eqb}
 use Rattle.turns.specs.Pick.{pick}
-use Rattle.turns.specs.Turn.{Next, moved, answered, refused}
+use Rattle.turns.specs.Turn.{Next, moved, refused}
 use Rattle.trees.specs.Signature.{Entries}
 use Rattle.checking.specs.declared.CheckState.{CheckState}
 

@@ -3,12 +3,12 @@
 --   lengthFault most w l       the refusal of a list of l numbers, w to an entry, or 0
 --   turnOf k s b st            the whole turn
 --   TurnPromise k s b st r     r says and leaves what that turn does
-use Prim.Native.Nat.{ℕ, zero, suc, _+_, _-_, _*_, _/_, _%_, _≤_, _<_}
+use Prim.Native.Nat.{ℕ, _/_, _%_}
 use mathlib.Core.Path.{_≡_}
 use mathlib.Core.List.{List}
-use mathlib.Core.Bool.{Bool, true, false}
+use mathlib.Core.Bool.{Bool}
 use lib.ListN.{length}
-use lib.Dec.{ltb, leb, eqb}
+use lib.Dec.{leb, eqb}
 use Rattle.turns.specs.Pick.{pick}
 use Rattle.turns.specs.Turn.{Turned, Halt, turn}
 use Rattle.trees.specs.Signature.{Entries, entriesOf, width}
@@ -17,15 +17,11 @@ use Rattle.checking.specs.declared.CheckTurn.{CheckTurn}
 use Rattle.checking.specs.declared.Kind.{Kind}
 use Rattle.checking.specs.Kinds.{anyName, most}
 use Rattle.checking.specs.Rule.{stepOf, accepted, inRange}
-use Rattle.checking.specs.Stops.{Told, told, haltTold}
+use Rattle.checking.specs.Stops.{told, haltTold}
 
 -- at most b steps of the rule
 abbrev pub runOf : Bool → ℕ → Entries → ℕ → CheckState → Turned CheckState
 runOf any n e b st = turn CheckState (accepted n) (stepOf any n e) b st
-
--- where the budget is spent: the end reached on the last paid step is reported as that
-abbrev pub spentOf : ℕ → CheckState → ℕ → Turned CheckState
-spentOf n st k = record { state = st; steps = k; halt = pick (accepted n st) Halt.end Halt.budget }
 
 -- "whole length (1, then 7)": empty or cut inside an entry 1, more than `most` entries 7, else 0
 unfoldable pub lengthFault : ℕ → ℕ → ℕ → ℕ

@@ -6,10 +6,10 @@ ghost use lib.ListN.{getD};
 ghost use Rattle.trees.specs.Signature.{cell, width};
 ghost use Rattle.checking.specs.Kinds.{anyName, most};
 ghost use Rattle.checking.specs.Stops.{told};
-ghost use Rattle.checking.specs.Rule.{at, inRange, fresh};
+ghost use Rattle.checking.specs.Rule.{at, fresh};
 ghost use Rattle.checking.specs.Turn.{lengthFault, turnOf, TurnPromise};
 ghost use Rattle.checking.specs.Whole.{wholeOf, WholePromise};
-ghost use Rattle.checking.specs.Plain.{toldAs, Reaches, startFault};
+ghost use Rattle.checking.specs.Plain.{toldAs, Reaches};
 
 mod steps;
 
@@ -138,14 +138,6 @@ pub fn entry_number(sig: &[u16], i: PreRank, k: u16) -> u16
     }
 }
 
-// Whether a saved state is within its ranges.
-fn is_in_range(n: u16, next: u16, top: u16, closed: u16) -> bool
-    requires { ⌜ n ≤ 4096 ⌝ }
-    ensures { λ r. ⌜ «r» ≡ inRange n (at next top closed) ⌝ }
-{
-    (1 <= next) & (next <= n + 1) & (top < next) & (closed < next)
-}
-
 // The refusal of a signature of len numbers by its length alone, or 0.
 pub fn length_fault(kind: Kind, len: usize) -> u16
     ensures { λ r. ⌜ r ≡ lengthFault (most kind) width len ⌝ }
@@ -159,31 +151,21 @@ pub fn length_fault(kind: Kind, len: usize) -> u16
     }
 }
 
-// The number by which a turn is refused before its first step, or 0.
-fn start_fault(kind: Kind, len: usize, next: u16, top: u16, closed: u16) -> u16
-    ensures { λ r. ⌜ r ≡ startFault (most kind) len (at next top closed) ⌝ }
-{
-    let fault = length_fault(kind, len);
-    if fault != 0 {
-        fault
-    } else if is_in_range((len / 4) as u16, next, top, closed) {
-        0
-    } else {
-        BAD_STATE
-    }
-}
-
-// A turn in plain numbers. Its start costs the same for every size.
+// A turn in plain numbers: refused by the signature's length, refused by a state outside its ranges, or run. Its start costs the same for every size.
 fn reach(kind: Kind, sig: &[u16], budget: u64, next: u16, top: u16, closed: u16) -> Reached
     ensures { λ r. ⌜ Reaches r (turnOf kind (now (sig .entry)) budget (at next top closed)) ⌝ }
 {
-    let fault = start_fault(kind, sig.len(), next, top, closed);
+    let fault = length_fault(kind, sig.len());
     if fault != 0 {
         return halted(next, top, closed, 0, REFUSED, fault, 0);
     }
     let n = (sig.len() / 4) as u16;
     let any_name = kind.any_name();
-    run(sig, n, any_name, budget, next, top, closed)
+    if (1 <= next) & (next <= n + 1) & (top < next) & (closed < next) {
+        run(sig, n, any_name, budget, next, top, closed)
+    } else {
+        halted(next, top, closed, 0, REFUSED, BAD_STATE, 0)
+    }
 }
 
 // The stop reason of these numbers.

@@ -4,9 +4,9 @@ ghost use mathlib.Core.Bool.{Bool};
 ghost use Prim.Native.Nat.{ℕ, _+_, _*_, _-_, _<_, _≤_};
 ghost use lib.ListN.{length};
 ghost use Rattle.trees.specs.Signature.{cell, entriesOf, width};
-ghost use Rattle.checking.specs.Rule.{Ranges, at, closeOf, stepOf, nameless};
+ghost use Rattle.checking.specs.Rule.{Ranges, at, closeOf, stepOf};
 ghost use Rattle.checking.specs.Turn.{runOf};
-ghost use Rattle.checking.specs.Plain.{numberOf, entryOf, noParent, entryFault, opened, topAfter, reasonHere, haltedAt, Reaches};
+ghost use Rattle.checking.specs.Plain.{numberOf, entryFault, opened, closeEntry, restOf, haltedAt, Reaches};
 use crate::BAD_STATE;
 use crate::NAMELESS;
 use crate::NOT_OPEN;
@@ -40,49 +40,34 @@ fn number(sig: &[u16], wide: usize, i: u16, k: usize) -> u16
     sig[wide * (at - 1) + k]
 }
 
-// Whether entry i has name 0 where that is refused.
-fn is_nameless(sig: &[u16], i: u16, any_name: bool) -> bool
-    requires { ⌜ (1 ≤ i) × (width * i ≤ length (now sig)) ⌝ }
-    ensures { λ r. ⌜ «r» ≡ nameless «any_name» (entriesOf width (now (sig .entry))) i ⌝ }
-{
-    !any_name & (number(sig, 4, i, 0) == 0)
-}
-
-// Whether fa cannot be the parent of entry i: it does not come before i, or i would be a second root.
-fn is_no_parent(i: u16, fa: u16) -> bool
-    ensures { λ r. ⌜ «r» ≡ noParent i fa ⌝ }
-{
-    (i <= fa) | ((1 < i) & (fa == 0))
-}
-
 // Rule 1: the number by which entry i is refused, or 0.
 fn entry_fault(sig: &[u16], n: u16, any_name: bool, i: u16) -> u16
     requires { ⌜ (1 ≤ i) × (length (now sig) ≡ width * n) ⌝ }
     ensures { λ r. ⌜ r ≡ entryFault «any_name» n (entriesOf width (now (sig .entry))) i ⌝ }
 {
     if n < i {
-        0
-    } else if is_nameless(sig, i, any_name) {
-        NAMELESS
-    } else if is_no_parent(i, number(sig, 4, i, 3)) {
+        return 0;
+    }
+    if !any_name & (number(sig, 4, i, 0) == 0) {
+        return NAMELESS;
+    }
+    let fa = number(sig, 4, i, 3);
+    if (i <= fa) | ((1 < i) & (fa == 0)) {
         NOT_OPEN
     } else {
         0
     }
 }
 
-// Rule 2: 1 if entry i is opened, else 0.
-fn opens(sig: &[u16], n: u16, i: u16, top: u16) -> u16
+// Rule 2: whether entry i is opened.
+fn opens(sig: &[u16], n: u16, i: u16, top: u16) -> bool
     requires { ⌜ (1 ≤ i) × (length (now sig) ≡ width * n) ⌝ }
-    ensures { λ r. ⌜ (r ≡ opened n (entriesOf width (now (sig .entry))) i top) × (r ≤ 1) ⌝ }
+    ensures { λ r. ⌜ «r» ≡ opened n (entriesOf width (now (sig .entry))) i top ⌝ }
 {
     if n < i {
-        0
-    } else if number(sig, 4, i, 3) == top {
-        1
-    } else {
-        0
+        return false;
     }
+    number(sig, 4, i, 3) == top
 }
 
 // Rules 3 and 4: the number by which closing the innermost open element is refused, or 0.
@@ -108,62 +93,15 @@ fn close_fault(sig: &[u16], i: u16, top: u16, closed: u16) -> u16
     if up < top { 0 } else { NOT_OPEN }
 }
 
-// The number by which the step is refused, or 0; opening says whether rule 2 opens entry i.
-fn step_fault(
-    sig: &[u16],
-    n: u16,
-    any_name: bool,
-    i: u16,
-    top: u16,
-    closed: u16,
-    opening: u16,
-) -> u16
-    requires { ⌜ (length (now sig) ≡ width * n) × Ranges n (at i top closed) × (opening ≡ opened n (entriesOf width (now sig)) i top) ⌝ }
-    ensures { λ r. ⌜ r ≡ numberOf (stepOf «any_name» n (entriesOf width (now (sig .entry))) (at i top closed)) ⌝ }
+// The entry that a refused close names: the next one where nothing is open, none by the 9, else the one that would be closed.
+fn close_entry(i: u16, top: u16, closed: u16) -> u16
+    requires { ⌜ closed < i ⌝ }
+    ensures { λ r. ⌜ r ≡ closeEntry i top closed ⌝ }
 {
-    let fault = entry_fault(sig, n, any_name, i);
-    if fault != 0 {
-        fault
-    } else if opening == 1 {
-        0
-    } else {
-        close_fault(sig, i, top, closed)
-    }
-}
-
-// The entry that a refused step names: the next one by rules 1 and 3, none by the 9, else the one that would be closed.
-fn fault_entry(sig: &[u16], n: u16, any_name: bool, i: u16, top: u16, closed: u16) -> u16
-    requires { ⌜ (length (now sig) ≡ width * n) × Ranges n (at i top closed) × (numberOf (stepOf «any_name» n (entriesOf width (now sig)) (at i top closed)) ≡ 0 → ⊥) ⌝ }
-    ensures { λ r. ⌜ r ≡ entryOf (stepOf «any_name» n (entriesOf width (now (sig .entry))) (at i top closed)) ⌝ }
-{
-    if (entry_fault(sig, n, any_name, i) != 0) | (top == 0) {
+    if top == 0 {
         return i;
     }
     if closed + 1 == i { 0 } else { top }
-}
-
-// The innermost open element after a step: entry i if the step opened it, else the parent of the closed one.
-fn top_after(sig: &[u16], opening: u16, i: u16, top: u16) -> u16
-    requires { ⌜ (width * top ≤ length (now sig)) × ((opening ≡ 1 → ⊥) → 1 ≤ top) ⌝ }
-    ensures { λ r. ⌜ r ≡ topAfter opening i (entriesOf width (now (sig .entry)) .fa top) ⌝ }
-{
-    if opening == 1 {
-        i
-    } else {
-        number(sig, 4, top, 3)
-    }
-}
-
-// What stops the check here if no step is left to it: the end, where the check has come to it, or the budget.
-fn stop_here(n: u16, i: u16, top: u16) -> u16
-    requires { ⌜ n ≤ 4096 ⌝ }
-    ensures { λ r. ⌜ r ≡ reasonHere n i top ⌝ }
-{
-    if (i == n + 1) & (top == 0) {
-        ENDED
-    } else {
-        SPENT
-    }
 }
 
 // Where a turn came to, of these numbers.
@@ -189,7 +127,36 @@ pub fn halted(
     }
 }
 
-// Up to budget steps from a state within its ranges.
+// What the turn hands back where its steps stop: at the end, with the budget spent, or before a step that is refused.
+fn stopped(
+    sig: &[u16],
+    n: u16,
+    any_name: bool,
+    budget: u64,
+    i: u16,
+    top: u16,
+    closed: u16,
+    steps: u64,
+) -> Reached
+    requires { ⌜ (length (now sig) ≡ width * n) × (n ≤ 4096) × Ranges n (at i top closed) × (steps ≤ budget) × (steps < budget → numberOf (stepOf «any_name» n (entriesOf width (now sig)) (at i top closed)) ≡ 0 → ⊥) ⌝ }
+    ensures { λ r. ⌜ Reaches r (restOf «any_name» n (entriesOf width (now (sig .entry))) (budget - steps) steps (at i top closed)) ⌝ }
+{
+    if (i == n + 1) & (top == 0) {
+        return halted(i, top, closed, steps, ENDED, 0, 0);
+    }
+    if steps == budget {
+        return halted(i, top, closed, steps, SPENT, 0, 0);
+    }
+    let fault = entry_fault(sig, n, any_name, i);
+    if fault != 0 {
+        return halted(i, top, closed, steps, REFUSED, fault, i);
+    }
+    let refusal = close_fault(sig, i, top, closed);
+    let entry = close_entry(i, top, closed);
+    halted(i, top, closed, steps, REFUSED, refusal, entry)
+}
+
+// Up to budget steps from a state within its ranges. The loop asks only whether a step is taken: what stopped it is found out once, behind the loop.
 pub fn run(
     sig: &[u16],
     n: u16,
@@ -204,20 +171,19 @@ pub fn run(
 {
     let mut steps: u64 = 0;
     while steps < budget {
-        if stop_here(n, i, top) == ENDED {
-            return halted(i, top, closed, steps, ENDED, 0, 0);
+        if entry_fault(sig, n, any_name, i) != 0 {
+            break;
         }
-        let opening = opens(sig, n, i, top);
-        let fault = step_fault(sig, n, any_name, i, top, closed, opening);
-        if fault != 0 {
-            let entry = fault_entry(sig, n, any_name, i, top, closed);
-            return halted(i, top, closed, steps, REFUSED, fault, entry);
+        if opens(sig, n, i, top) {
+            top = i;
+            i += 1;
+        } else if close_fault(sig, i, top, closed) == 0 {
+            top = number(sig, 4, top, 3);
+            closed += 1;
+        } else {
+            break;
         }
-        top = top_after(sig, opening, i, top);
-        i += opening;
-        closed += 1 - opening;
         steps += 1;
     }
-    let reason = stop_here(n, i, top);
-    halted(i, top, closed, steps, reason, 0, 0)
+    stopped(sig, n, any_name, budget, i, top, closed, steps)
 }

@@ -1,16 +1,15 @@
--- The invariant: what was asked at the start is what is still asked now, with the steps taken and the state reached. So each return is the first case
--- that the turn meets. What is left of the budget falls.
-use Rattle.turns.specs.Laws.{run-end, run-refused, run-counted}
-use Rattle.turns.specs.Turn.{run}
+-- The invariant: what was asked at the start is what is still asked now, with the steps taken and the state reached. What is left of the budget falls.
+use Rattle.turns.specs.Laws.{run-counted}
 use Rattle.trees.specs.Signature.{entriesOf, width}
-use Rattle.checking.specs.declared.CheckState.{CheckState}
-use Rattle.checking.specs.Rule.{Ranges, at, stepOf, accepted}
-use Rattle.checking.proofs.Runs.{run-spent}
-use Rattle.checking.proofs.Inverse.{step-ranges}
-use Rattle.checking.proofs.Plain.{number-none, number-refused, step-taken, step-top}
-use Rattle.checking.proofs.Stopping.{halted-as, reason-end, reason-on, spent-told}
+use Rattle.turns.specs.Turn.{moved}
+use Rattle.checking.specs.Rule.{Ranges, at, stepOf}
+use Rattle.checking.specs.Plain.{restOf}
+use Rattle.checking.proofs.Inverse.{step-ranges, step-before}
+use Rattle.checking.proofs.Plain.{moved-at, close-some, step-opens, step-shuts, stuck-entry, stuck-close}
+use Rattle.checking.proofs.Stopping.{reaches-as}
 use native.Mathlib.Nat.{sub-zero}
-use mathlib.Core.Path.{_≡_, refl, sym, _∙_}
+use mathlib.Core.Path.{_≡_, sym, _∙_}
+use mathlib.Core.Logic.{inl, inr}
 use Prim.Native.Nat.{_≤_, _-_}
 use native.Mathlib.Omega.{arith}
 use borrow.Author.Needs.{needs}
@@ -20,8 +19,7 @@ use Rattle.checking.proofs.steps.run.Tie as tie
 abbrev Inv-loop : tie.InvT-loop
 Inv-loop sig n any-name budget i₀ top₀ closed₀ steps₀ i top closed steps =
     (steps ≤ budget) × Ranges n (at i top closed)
-    × (run CheckState (accepted n) (stepOf any-name n (entriesOf width sig)) budget steps₀ (at i₀ top₀ closed₀)
-    ≡ run CheckState (accepted n) (stepOf any-name n (entriesOf width sig)) (budget - steps) steps (at i top closed))
+    × (restOf any-name n (entriesOf width sig) budget steps₀ (at i₀ top₀ closed₀) ≡ restOf any-name n (entriesOf width sig) (budget - steps) steps (at i top closed))
 
 abbrev μ-loop : tie.MeasureT-loop
 μ-loop sig n any-name budget i₀ top₀ closed₀ steps₀ i top closed steps = budget - steps
@@ -29,48 +27,20 @@ abbrev μ-loop : tie.MeasureT-loop
 loop-holds : tie.Need-loop-holds Inv-loop μ-loop
 loop-holds c = (omega arith, c .before .pre .2, rw sub-zero)
 
-stop-here-requires : tie.Need-stop-here-requires Inv-loop μ-loop
-stop-here-requires c κs = c .before .before .before .pre .1
-
-halted-requires : tie.Need-halted-requires Inv-loop μ-loop
-halted-requires c κs = search needs
-
-returns : tie.Need-returns Inv-loop μ-loop
-returns c =
-    halted-as _ _ _ _ (c .halted .ensures)
-    (c .before .before .before .before .loop .inv .2 ∙ run-end _ _ _ _ _ _ (reason-end _ _ _ _ (sym (c .before .before .stop-here .ensures) ∙ c .before .if1 .taken)))
-    (record { state = refl; steps = refl; stop = refl })
+entry-fault-requires : tie.Need-entry-fault-requires Inv-loop μ-loop
+entry-fault-requires c κs = search needs
 
 opens-requires : tie.Need-opens-requires Inv-loop μ-loop
-opens-requires c κs = (c .before .before .before .loop .inv .1 .some, c .before .before .before .before .before .pre .0)
-
-step-fault-requires : tie.Need-step-fault-requires Inv-loop μ-loop
-step-fault-requires c κs = (c .before .before .before .before .before .before .pre .0, c .before .before .before .before .loop .inv .1, c .opens .ensures .0)
-
-fault-entry-requires : tie.Need-fault-entry-requires Inv-loop μ-loop
-fault-entry-requires c κs =
-    (c .before .before .before .before .before .before .before .before .pre .0, c .before .before .before .before .before .before .loop .inv .1, λ w. c .if2 .taken (c .before .step-fault .ensures ∙ w))
-
-halted-requires-2 : tie.Need-halted-requires-2 Inv-loop μ-loop
-halted-requires-2 c κs = search needs
-
-returns-2 : tie.Need-returns-2 Inv-loop μ-loop
-returns-2 c =
-    halted-as _ _ _ _ (c .halted2 .ensures)
-    (c .before .before .before .before .before .before .before .before .loop .inv .2
-    ∙ run-refused _ _ _ _ _ (reason-on _ _ _ _ (λ w. c .before .before .before .before .before .if1 .left (c .before .before .before .before .before .before .stop-here .ensures ∙ w))) _ _ _ (omega arith)
-    (number-refused _ _ _ (c .before .before .before .step-fault .ensures) (c .before .fault-entry .ensures) (c .before .before .if2 .taken)))
-    (record { state = refl; steps = refl; stop = refl })
-
-top-after-requires : tie.Need-top-after-requires Inv-loop μ-loop
-top-after-requires c κs =
-    (omega arith, λ h. step-top _ _ _ _ _ _ (number-none _ _ (c .before .step-fault .ensures) (c .if2 .left)) (λ w. h (c .before .before .opens .ensures .0 ∙ w)))
+opens-requires c κs = search needs
 
 add-i : tie.Need-add-i Inv-loop μ-loop
 add-i c = omega arith
 
-sub-closed : tie.Need-sub-closed Inv-loop μ-loop
-sub-closed c = omega arith
+close-fault-requires : tie.Need-close-fault-requires Inv-loop μ-loop
+close-fault-requires c κs = search needs
+
+number-requires : tie.Need-number-requires Inv-loop μ-loop
+number-requires c κs = (close-some _ _ _ _ (sym (c .before .close-fault .ensures) ∙ c .if3 .taken), omega arith, omega arith)
 
 add-closed : tie.Need-add-closed Inv-loop μ-loop
 add-closed c = omega arith
@@ -83,20 +53,27 @@ loop-less c = omega arith
 
 loop-again : tie.Need-loop-again Inv-loop μ-loop
 loop-again c =
-    let l = c .before .before .before .before .before .before .before .loop in
-    let q = step-taken _ _ _ _ _ _ _ _ (c .before .before .before .opens .ensures .0) (c .top-after .ensures) (number-none _ _ (c .before .before .step-fault .ensures) (c .before .if2 .left)) in
-    (omega arith, step-ranges _ _ _ _ _ (l .inv .1) q, l .inv .2 ∙ run-counted _ _ _ _ _ (reason-on _ _ _ _ (λ w. c .before .before .before .before .if1 .left (c .before .before .before .before .before .stop-here .ensures ∙ w))) _ _ (omega arith) q)
+    let l = c .before .before .before .before .before .loop in
+    let a = c .before .before .before .before .before .before .before .args in
+    let f = c .before .before .before .entry-fault in
+    let z = c .before .before .if1 .left in
+    let o = c .before .opens in
+    let q : stepOf (a .any-name) (a .n) (entriesOf width (a .sig .now)) (at (l .i) (l .top) (l .closed)) ≡ moved (at (c .if2 .i) (c .if2 .top) (c .if2 .closed)) =
+    elim (c .if2 .came) [
+      | inl w ↦ step-opens _ _ _ _ _ _ _ (f .ensures) z _ (o .ensures) (w .0 .taken) ∙ moved-at (w .1) (w .2) (w .3)
+      | inr w ↦ step-shuts _ _ _ _ _ _ _ (f .ensures) z _ (o .ensures) (w .0 .left) _ (w .1 .ensures) (w .2 .taken)
+          ∙ moved-at (w .4) (w .5 ∙ w .3 .ensures) (w .6)
+    ] in
+    (omega arith, step-ranges _ _ _ _ _ (l .inv .1) q, l .inv .2 ∙ run-counted _ _ _ _ _ (step-before _ _ _ _ _ q) _ _ (omega arith) q)
 
-stop-here-requires-2 : tie.Need-stop-here-requires-2 Inv-loop μ-loop
-stop-here-requires-2 c κs = c .before .before .before .pre .1
+stopped-requires : tie.Need-stopped-requires Inv-loop μ-loop
+stopped-requires c κs =
+    let l = c .before .loop in
+    let a = c .before .before .before in
+    (a .pre .0, a .pre .1, l .inv .1, l .inv .0, λ b. elim (c .loop-test .came) [ inl w ↦ absurd (omega arith) | inr (inl w) ↦ stuck-entry _ _ _ _ _ _ _ (w .1 .ensures) (w .2 .taken) | inr (inr w) ↦ stuck-close _ _ _ _ _ _ _ (w .1 .ensures) (w .2 .left) _ (w .3 .ensures) (w .4 .left) _ (w .5 .ensures) (w .6 .left) ])
 
-halted-requires-3 : tie.Need-halted-requires-3 Inv-loop μ-loop
-halted-requires-3 c κs = search needs
-
-returns-3 : tie.Need-returns-3 Inv-loop μ-loop
-returns-3 c =
-    halted-as _ _ _ _ (c .halted3 .ensures) (c .before .before .before .loop .inv .2 ∙ run-spent _ _ _ _ _ _ (omega arith))
-    (record { state = refl; steps = refl; stop = spent-told _ _ _ _ _ (c .before .stop-here2 .ensures) })
+returns : tie.Need-returns Inv-loop μ-loop
+returns c = reaches-as _ _ _ (c .before .before .loop .inv .2) (c .stopped .ensures)
 
 pub run-spec : {M : Type 1} → statement M
 run-spec =
@@ -105,21 +82,14 @@ run-spec =
     Inv-loop
     μ-loop
     loop-holds
-    stop-here-requires
-    halted-requires
-    returns
+    entry-fault-requires
     opens-requires
-    step-fault-requires
-    fault-entry-requires
-    halted-requires-2
-    returns-2
-    top-after-requires
     add-i
-    sub-closed
+    close-fault-requires
+    number-requires
     add-closed
     add-steps
     loop-less
     loop-again
-    stop-here-requires-2
-    halted-requires-3
-    returns-3)
+    stopped-requires
+    returns)
