@@ -5,7 +5,7 @@
 --   cut, larger     a turn of a + b steps is one of a and then one of b, unless it stopped
 --   fault           a refusal met by a step is that of the next step, which the budget would have paid for
 --   count-unique    no two counts join the same two states
-use Prim.Native.Nat.{ℕ, zero, suc, _+_}
+use Prim.Native.Nat.{ℕ, suc, _+_}
 use mathlib.Core.Path.{_≡_, refl, ap, _∙_, sym, subst}
 use mathlib.Core.Bool.{Bool}
 use native.Mathlib.Omega.{arith}

@@ -6,31 +6,31 @@
 --   stops-before-the-fault a turn refused at a step stands before that step, and its budget would have paid for it
 --   cut-anywhere, cut-kept a turn of a + b steps is one of a and then one of b, unless it stopped
 --   count-unique           no two counts join the same two states
-use Prim.Native.Nat.{ℕ, zero, suc, _+_, _-_, _*_, _≤_, _<_}
+use Prim.Native.Nat.{ℕ, _+_, _-_, _*_, _≤_, _<_}
 use mathlib.Core.Path.{_≡_, refl, ap, _∙_, sym, subst}
 use mathlib.Core.List.{List}
 use mathlib.Core.Bool.{Bool, true, false}
 use lib.ListN.{length}
-use lib.Dec.{eqb, leb}
+use lib.Dec.{eqb}
 use native.Mathlib.Omega.{arith}
 use native.Mathlib.Decide.{ℕ-discrete, decLe}
-use borrow.Author.Tests.{le-leb, lt-leb, ne-eqb, eq-eqb, eqb-false}
+use borrow.Author.Tests.{le-leb, lt-leb, ne-eqb, eqb-false}
 use Rattle.turns.specs.Pick.{pick}
 use Rattle.turns.specs.Turn.{Next, moved, answered, refused, Halt, Turned, turn, Step, on, found, Steps}
 use Rattle.turns.specs.Counts as Counts
 use Rattle.turns.specs.Laws as Laws
-use Rattle.trees.specs.Signature.{Entries, entriesOf, width, entries}
+use Rattle.trees.specs.Signature.{entriesOf, width, entries}
 use Rattle.checking.specs.declared.Stop.{Stop}
 use Rattle.checking.specs.declared.Refusal.{Refusal}
 use Rattle.checking.specs.Stops.{told, haltTold}
-use Rattle.checked.specs.Apart.{haltOf, told-apart, told-halt, halt-told, told-stop, stopOf}
+use Rattle.checked.specs.Apart.{haltOf, told-apart, told-halt, halt-told}
 use Rattle.preparing.specs.declared.Prep.{Prep}
 use Rattle.preparing.specs.declared.PrepTurn.{PrepTurn}
 use Rattle.preparing.specs.declared.Started.{Started}
 use Rattle.preparing.specs.Masks.{tableWidth}
 use Rattle.preparing.specs.Given.{givenOf, begun, refusedFor}
 use Rattle.preparing.specs.Preparing.{Preparing, prepared, prepStep, badParent, stepTable}
-use Rattle.preparing.specs.PrepTurn.{cleared, startFault, startTold, Fresh, StartPromise, prepAt, underway, preparing, prepInRange, prepRun, prepTurnOf, PrepHanded, PrepPromise}
+use Rattle.preparing.specs.PrepTurn.{cleared, startFault, startTold, Fresh, StartPromise, preparing, prepInRange, prepRun, prepTurnOf, PrepHanded, PrepPromise}
 use Rattle.preparing.proofs.Judged.{begun-run, begun-ready, ready-state, ready-room}
 use Rattle.preparing.proofs.PrepCases.{table-length, start-empty}
 use Rattle.loose_turns.specs.Judging as Judging

@@ -7,14 +7,14 @@
 use Prim.Native.Nat.{ℕ, _≤_}
 use mathlib.Core.Path.{_≡_, refl}
 use mathlib.Core.Bool.{true}
-use mathlib.Core.List.{List, [], _∷_}
+use mathlib.Core.List.{List}
 use native.Mathlib.Omega.{arith}
 use lib.ListN.{length}
 use Rattle.turns.specs.Turn.{Steps, run}
 use Rattle.trees.specs.Signature.{cell, entriesOf, width}
 use Rattle.checking.specs.Rule as check
 use Rattle.checking.specs.Turn.{turnWithin, lengthFault}
-use Rattle.checked.specs.Menus.{five}
+use Rattle.checked.specs.Menus.{five, pair}
 use Rattle.preparing.specs.declared.PrepTurn.{PrepTurn}
 use Rattle.preparing.specs.Masks.{every}
 use Rattle.preparing.specs.Given.{givenOf}
@@ -22,37 +22,35 @@ use Rattle.preparing.specs.Preparing.{Preparing, prepared}
 use Rattle.preparing.specs.PrepTurn.{PrepPromise, prepAt, preparing}
 use Rattle.walking.specs.declared.Walk.{Walk}
 use Rattle.walking.specs.declared.WalkTurn.{WalkTurn}
-use Rattle.walking.specs.Walking.{image, imageFits, phaseFits, inRange, fresh, ended}
+use Rattle.walk_ranges.specs.Ranges.{image, imageFits, phaseFits}
+use Rattle.walking.specs.Walking.{inRange, fresh, ended}
 use Rattle.walking.specs.WalkTurn.{WalkPromise, walkFits}
 use Rattle.walking.proofs.WalkRanges.{range-facts}
 use Rattle.loose_turns.specs.Prepared as Prepared
 use Rattle.loose_turns.specs.Walked as Walked
 
-abbrev oneOne : List ℕ
-oneOne = 1 ∷ 2 ∷ 3 ∷ 0 ∷ 1 ∷ 1 ∷ 3 ∷ 1 ∷ []
-
-five-given : givenOf five oneOne .reason ≡ 1
+five-given : givenOf five pair .reason ≡ 1
 unfolding givenOf turnWithin lengthFault check.inRange run check.stepOf check.closeOf check.nameless check.secondRoot check.accepted cell
 five-given = refl
 
-five-fresh : walkFits five oneOne fresh ≡ true
+five-fresh : walkFits five pair fresh ≡ true
 unfolding inRange phaseFits imageFits every image cell
 five-fresh = refl
 
 module _ (table : List ℕ) (room : 10 ≤ length table) where
-  pub five-good : Walked.Good five oneOne table fresh
-  five-good = record { given = five-given; in-range = range-facts 5 2 (entriesOf width oneOne) fresh refl (omega arith) five-fresh; room = room }
+  pub five-good : Walked.Good five pair table fresh
+  five-good = record { given = five-given; in-range = range-facts 5 2 (entriesOf width pair) fresh refl (omega arith) five-fresh; room = room }
 
-  module _ (b : ℕ) (r : WalkTurn) (p : WalkPromise five oneOne table b fresh r) where
-    pub five-count : (j : ℕ) → Steps Walk ended (Walked.step five oneOne table) j fresh (r .walk) → r .steps ≡ j
-    five-count j m = Walked.count-unique five oneOne table five-good (Walked.step-as-written five oneOne table b fresh refl r p) m
+  module _ (b : ℕ) (r : WalkTurn) (p : WalkPromise five pair table b fresh r) where
+    pub five-count : (j : ℕ) → Steps Walk ended (Walked.step five pair table) j fresh (r .walk) → r .steps ≡ j
+    five-count j m = Walked.count-unique five pair table five-good (Walked.step-as-written five pair table b fresh refl r p) m
 
-    pub five-in-range : walkFits five oneOne (r .walk) ≡ true
-    five-in-range = Walked.handed-back-in-range five oneOne table b fresh refl r p five-fresh
+    pub five-in-range : walkFits five pair (r .walk) ≡ true
+    five-in-range = Walked.handed-back-in-range five pair table b fresh refl r p five-fresh
 
-  pub five-ready : Prepared.Good five oneOne (preparing (prepAt 5) table)
+  pub five-ready : Prepared.Good five pair (preparing (prepAt 5) table)
   five-ready = record { given = five-given; in-range = omega arith; room = room }
 
-  pub five-prep-count : (b : ℕ) (r : PrepTurn) (left : List ℕ) → PrepPromise five oneOne table b (prepAt 5) r left
-      → (j : ℕ) → Steps Preparing prepared (Prepared.step five oneOne) j (preparing (prepAt 5) table) (preparing (r .state) left) → r .steps ≡ j
-  five-prep-count b r left p j m = Prepared.count-unique five oneOne (Prepared.step-as-written five oneOne table b (prepAt 5) r left p) m
+  pub five-prep-count : (b : ℕ) (r : PrepTurn) (left : List ℕ) → PrepPromise five pair table b (prepAt 5) r left
+      → (j : ℕ) → Steps Preparing prepared (Prepared.step five pair) j (preparing (prepAt 5) table) (preparing (r .state) left) → r .steps ≡ j
+  five-prep-count b r left p j m = Prepared.count-unique five pair (Prepared.step-as-written five pair table b (prepAt 5) r left p) m

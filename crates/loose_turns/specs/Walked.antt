@@ -5,7 +5,7 @@
 --   stops-before-the-fault a turn refused at a step stands before that step, and its budget would have paid for it
 --   cut-anywhere, cut-kept a turn of a + b steps is one of a and then one of b, unless it stopped
 --   count-unique           no two counts join the same two walks, on any signature and table
-use Prim.Native.Nat.{ℕ, zero, suc, _+_, _-_, _*_, _≤_, _<_}
+use Prim.Native.Nat.{ℕ, _+_, _*_, _≤_}
 use mathlib.Core.Path.{_≡_, refl, ap, _∙_, sym, subst}
 use mathlib.Core.List.{List}
 use mathlib.Core.Logic.{inl, inr}
@@ -13,19 +13,19 @@ use mathlib.Core.Bool.{Bool, true, false}
 use lib.ListN.{length}
 use native.Mathlib.Omega.{arith}
 use native.Mathlib.Decide.{ℕ-discrete, decLe}
-use Rattle.turns.specs.Turn.{Next, moved, answered, refused, Halt, Turned, turn, Step, on, found, Steps}
+use Rattle.turns.specs.Turn.{Next, Halt, Turned, turn, Step, on, found, Steps}
 use Rattle.turns.specs.Laws as Laws
 use Rattle.trees.specs.Signature.{Entries, entriesOf, width, entries}
 use Rattle.checking.specs.declared.Stop.{Stop}
 use Rattle.checking.specs.declared.Refusal.{Refusal}
-use Rattle.checking.specs.Stops.{told, haltTold}
+use Rattle.checking.specs.Stops.{haltTold}
 use Rattle.checked.specs.Apart.{haltOf, told-apart, told-halt, halt-told}
 use Rattle.walking.specs.declared.Walk.{Walk}
 use Rattle.walking.specs.declared.WalkTurn.{WalkTurn}
 use Rattle.preparing.specs.Masks.{tableWidth, can}
 use Rattle.preparing.specs.Given.{givenOf}
-use Rattle.walking.specs.Kept.{Parents, Ranges}
-use Rattle.walking.specs.Walking.{inRange, stepOf, ended}
+use Rattle.walking.specs.Kept.{Ranges}
+use Rattle.walking.specs.Walking.{stepOf, ended}
 use Rattle.walking.specs.WalkTurn.{walkRun, walkFits, walkTurnOf, WalkHanded, WalkPromise}
 use Rattle.preparing.proofs.Judged.{given-twig, begun-run, begun-ready, ready-state, ready-room}
 use Rattle.walking.proofs.Parents.{given-parents}

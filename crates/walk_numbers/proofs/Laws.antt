@@ -4,7 +4,7 @@ use mathlib.Core.Path.{_≡_, ap}
 use mathlib.Core.List.{List, [], _∷_}
 use lib.ListN.{getD}
 use borrow.Author.Tests.{eq-eqb, ne-eqb, lt-ltb, le-ltb}
-use Rattle.walking.specs.declared.Phase.{Phase}
+use Rattle.walk_ranges.specs.declared.Phase.{Phase}
 use Rattle.walking.specs.declared.Walk.{Walk}
 use Rattle.walking.specs.Walking.{at}
 use Rattle.walk_numbers.specs.Walk.{phaseOf, phaseNumber, sixteen, outside, walkOf, walkNumbers, keptOf}

@@ -4,7 +4,7 @@ ghost use Prim.Native.Nat.{ℕ};
 ghost use Rattle.walk_numbers.specs.Walk.{phaseOf, phaseNumber, walkOf, walkNumbers, keptOf, WalkSaid};
 use checking::PreRank;
 use telling::tell_stop;
-use walking::Phase;
+use walk_ranges::Phase;
 use walking::Walk;
 use walking::WalkTurn;
 

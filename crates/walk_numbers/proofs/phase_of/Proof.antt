@@ -2,7 +2,6 @@
 use mathlib.Core.Path.{sym}
 use Rattle.walk_numbers.proofs.Laws.{phase-walking, phase-answer, phase-ended}
 use native.Mathlib.Omega.{arith}
-use borrow.Author.Needs.{needs}
 use Rattle.walk_numbers.proofs.phase_of.Statement.{statement}
 use Rattle.walk_numbers.proofs.phase_of.Tie as tie
 
