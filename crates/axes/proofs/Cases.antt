@@ -1,19 +1,37 @@
 -- Which case of a definition holds under which facts.
---   self-…, sibling-…, chosen-…   the tests of the axes
---   pick-…       which number is picked
---   between-…    whether a rank lies between two others
+--   ancestor-is, before-is   two tests of the axes, by ff
+--   self-…, child-no, sibling-…, chosen-…   the tests of the axes
+--   between-no   a rank that does not lie between two others
 --   axis-…       which test an axis is
 use Prim.Native.Nat.{ℕ, _-_, _≤_, _<_}
-use mathlib.Core.Path.{_≡_, refl, ap, sym}
-use mathlib.Core.Logic.{_⊎_, inl, inr}
-use mathlib.Core.Bool.{Bool, true, false, _&&_, and-false, and-true, true≢false}
-use lib.Dec.{leb, eqb}
+use mathlib.Core.Path.{_≡_, refl, ap, _∙_, sym}
+use mathlib.Core.Logic.{_⊎_, inl, inr, ⊎-elim}
+use mathlib.Core.Bool.{Bool, true, false, not, _&&_, and-false, and-true, true≢false}
+use native.Mathlib.Omega.{arith}
+use lib.Dec.{ltb, leb, eqb}
 use borrow.Author.Tests.{lt-ltb, le-ltb, le-leb, lt-leb, eq-eqb, ne-eqb, leb-false}
+use Rattle.turns.specs.Truth.{and-both}
 use Rattle.trees.specs.Names.{passes}
-use Rattle.turns.specs.Pick.{pick}
+use Rattle.trees.specs.Facts.{Facts}
+use Rattle.trees.specs.Order.{lt-or-ge}
+use Rattle.trees.specs.Signature.{Entries}
 use Rattle.xpath.specs.Axes.{parentOf, ancestorOf, ancestorOrSelf, wholeBefore, siblingBefore, onAxis, chosen}
+use Rattle.xpath.specs.Ancestors.{inside-yes, inside-no, whole-yes, whole-no}
 
 -- ---- the tests of the axes
+
+-- by the ff of a, as the code reads it
+module _ (n : ℕ) (e : Entries) (f : Facts n e) (a j past : ℕ) (la : 1 ≤ a) (h : j ≤ n) (q : past ≡ e .ff a) where
+  pub ancestor-is : 1 ≤ j → (ltb a j && ltb j past) ≡ ancestorOf n (e .fa) a j
+  ancestor-is l = ap (λ (x : ℕ). ltb a j && ltb j x) q ∙ ⊎-elim
+      (λ (m : a < j). ⊎-elim (λ (w : j < e .ff a). and-both (ltb a j) (ltb j (e .ff a)) (lt-ltb a j m) (lt-ltb j (e .ff a) w) ∙ sym (inside-yes n e f n a j la m h h w))
+      (λ (w : e .ff a ≤ j). ap (λ (b : Bool). ltb a j && b) (le-ltb j (e .ff a) w) ∙ and-false (ltb a j) ∙ sym (inside-no n e f n a j la l h (λ x. w))) (lt-or-ge j (e .ff a)))
+      (λ (g : j ≤ a). ap (λ (b : Bool). b && ltb j (e .ff a)) (le-ltb a j g) ∙ sym (inside-no n e f n a j la l h (λ x. absurd (omega arith)))) (lt-or-ge a j)
+
+  pub before-is : a ≤ n → leb past j ≡ wholeBefore n (e .fa) a j
+  before-is ha = ap (λ (x : ℕ). leb x j) q ∙ ⊎-elim
+      (λ (w : j < e .ff a). lt-leb (e .ff a) j w ∙ sym (whole-no n e f a j la ha h w))
+      (λ (w : e .ff a ≤ j). le-leb (e .ff a) j w ∙ sym (whole-yes n e f a j la ha h w)) (lt-or-ge j (e .ff a))
 
 module _ (n : ℕ) (parent : ℕ → ℕ) (a j : ℕ) where
   pub self-yes : a ≡ j → ancestorOrSelf n parent a j ≡ true
@@ -25,13 +43,14 @@ module _ (n : ℕ) (parent : ℕ → ℕ) (a j : ℕ) where
   self-other h = simp (ne-eqb _ _ h)
 
 module _ (parent : ℕ → ℕ) (a j : ℕ) where
-  pub child-yes : parent j ≡ a → parentOf parent a j ≡ true
-  unfolding parentOf
-  child-yes h = eq-eqb _ _ h
-
   pub child-no : (parent j ≡ a → ⊥) → parentOf parent a j ≡ false
   unfolding parentOf
   child-no h = ne-eqb _ _ h
+
+  pub sibling-is : (up : ℕ) (b : Bool) → up ≡ parent a → b ≡ parentOf parent up j → (ltb a j && (not (eqb up 0) && b)) ≡ siblingBefore parent a j
+  unfolding siblingBefore
+  sibling-is up b q h =
+      ap (λ (x : Bool). ltb a j && (not (eqb up 0) && x)) h ∙ ap (λ (x : ℕ). ltb a j && (not (eqb x 0) && parentOf parent x j)) q
 
   pub sibling-early : j ≤ a → siblingBefore parent a j ≡ false
   unfolding siblingBefore
@@ -50,6 +69,10 @@ module _ (axis n : ℕ) (parent name : ℕ → ℕ) (test c j : ℕ) where
   unfolding chosen
   chosen-named h = simp (h, and-true)
 
+  pub chosen-on : onAxis axis n parent c j ≡ true → chosen axis n parent name test c j ≡ passes test (name j)
+  unfolding chosen
+  chosen-on h = simp h
+
   pub chosen-off : onAxis axis n parent c j ≡ false → chosen axis n parent name test c j ≡ false
   unfolding chosen
   chosen-off h = simp h
@@ -58,27 +81,9 @@ module _ (axis n : ℕ) (parent name : ℕ → ℕ) (test c j : ℕ) where
   unfolding chosen
   chosen-other h = simp (h, and-false)
 
--- ---- one number or the other
-
-module _ (b : Bool) (x y : ℕ) where
-  pub pick-yes : b ≡ true → x ≡ pick b x y
-  pick-yes h = sym (simp h)
-
-  pub pick-no : b ≡ false → y ≡ pick b x y
-  pick-no h = sym (simp h)
-
 -- ---- a rank between two others
 
 module _ (j c last : ℕ) where
-  pub between-yes : j ≤ c → c ≤ last → true ≡ (leb j c && leb c last)
-  between-yes l h = sym (simp (le-leb j c l, le-leb c last h))
-
-  pub between-early : c < j → false ≡ (leb j c && leb c last)
-  between-early l = sym (simp (lt-leb j c l))
-
-  pub between-late : last < c → false ≡ (leb j c && leb c last)
-  between-late h = sym (simp (lt-leb c last h, and-false))
-
   pub between-no : (leb j c && leb c last) ≡ false → (c < j) ⊎ (last < c)
   between-no q = go (leb j c) (leb c last) refl refl q
     where

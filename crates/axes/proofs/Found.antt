@@ -1,7 +1,7 @@
 -- The search for the p-th: the count is that of the ranks up to j, and less than p.
 --   count-next, count-start, count-skip   the count at the next rank, at the first, and past ranks that do not pass
 --   count-below  a count that does not come to p
---   only-at      the rank at which the count comes to p
+--   only-hit, only-at   a rank that passes and whose count is p; the rank at which the count comes to p
 --   only-none    no rank does
 --   only-marks   the mark of the only rank
 use Prim.Native.Nat.{ℕ, zero, suc, _+_, _≤_, _<_}
@@ -16,8 +16,8 @@ use native.Mathlib.Decide.{ℕ-discrete}
 use lib.ListN.{length, set, length-set}
 use lib.Seq.{getD-set-same, getD-set-other}
 use lib.Dec.{eqb}
+use mir.Val.{boolByte}
 use borrow.Author.Tests.{eq-eqb, ne-eqb}
-use Rattle.turns.specs.Pick.{pick}
 use Rattle.trees.specs.Order.{lt-or-ge}
 use Rattle.xpath.specs.Select.{upTo}
 use Rattle.xpath.specs.SelectLaws.{up-none, up-grows}
@@ -28,17 +28,14 @@ use Rattle.marks.proofs.Marking.{count-yes, count-no}
 use Rattle.axes.specs.Range.{Only}
 
 -- a count below p that does not come to p stays below it
-pub count-below : (b : Bool) (met p r : ℕ) → r ≡ pick b (met + 1) met → met < p → (r ≡ p → ⊥) → r < p
-count-below true met p r s m ne = omega arith
-count-below false met p r s m ne = omega arith
+pub count-below : (b t : Bool) (met p : ℕ) → b ≡ t → met < p → (met + boolByte b ≡ p → ⊥) → met + boolByte b < p
+count-below true t met p s m ne = omega arith
+count-below false t met p s m ne = omega arith
 
 module _ (P : ℕ → Bool) where
-  pub count-next : (j met r : ℕ) → met ≡ length (upTo j P) → r ≡ pick (P (j + 1)) (met + 1) met → r ≡ length (upTo (j + 1) P)
-  count-next j met r q s = s ∙ go (P (j + 1)) refl
-    where
-      go : (b : Bool) → P (j + 1) ≡ b → pick b (met + 1) met ≡ length (upTo (j + 1) P)
-      go true h = count-yes P j met h q
-      go false h = count-no P j met h q
+  pub count-next : (j met : ℕ) (b : Bool) → met ≡ length (upTo j P) → b ≡ P (j + 1) → met + boolByte b ≡ length (upTo (j + 1) P)
+  count-next j met true q s = count-yes P j met (sym s) q
+  count-next j met false q s = omega (arith, count-no P j met (sym s) q)
 
   pub count-start : (j : ℕ) → ((i : ℕ) → 1 ≤ i → i ≤ j → P i ≡ false) → 0 ≡ length (upTo j P)
   count-start j h = sym (ap length (up-none P j h))
@@ -78,27 +75,20 @@ module _ (P : ℕ → Bool) where
     kept-early : (j i : ℕ) → i ≤ j → length (upTo j P) < p → kept axis p P i ≡ false
     kept-early j i l h = kept-miss i (λ y q. omega (arith, up-grows P i j l))
 
-    pub only-at : (n j met r : ℕ) → j < n → met ≡ length (upTo j P) → met < p → r ≡ pick (P (j + 1)) (met + 1) met → r ≡ p → Only n (kept axis p P) (j + 1)
-    only-at n j met r l q m s g = record { high = omega arith; are = λ i a b. at i }
+    pub only-hit : (n j : ℕ) → j ≤ n → P j ≡ true → length (upTo j P) ≡ p → Only n (kept axis p P) j
+    only-hit n j l y q = record { high = l; are = λ i a b. go i (ℕ-discrete i j) }
       where
-        passes : (b : Bool) → P (j + 1) ≡ b → r ≡ pick b (met + 1) met → P (j + 1) ≡ true
-        passes true h z = h
-        passes false h z = absurd (omega arith)
+        other : (i : ℕ) → (i ≡ j → ⊥) → P i ≡ true → length (upTo i P) ≡ p → ⊥
+        other i ne z r =
+            ⊎-elim (λ (w : i < j). omega (arith, counts-more i j w y)) (λ (w : j ≤ i). omega (arith, counts-more j i (omega arith) z)) (lt-or-ge i j)
 
-        all : length (upTo (j + 1) P) ≡ p
-        all = sym (count-next j met r q s) ∙ g
+        go : (i : ℕ) → Dec (i ≡ j) → kept axis p P i ≡ eqb i j
+        go i (yes z) = ap (kept axis p P) z ∙ kept-hit j y q ∙ sym (eq-eqb _ _ z)
+        go i (no z) = kept-miss i (other i z) ∙ sym (ne-eqb _ _ z)
 
-        other : (i : ℕ) → (i ≡ j + 1 → ⊥) → kept axis p P i ≡ false
-        other i ne =
-            ⊎-elim (λ (w : i < j + 1). kept-early j i (omega arith) (omega arith))
-            (λ (w : j + 1 ≤ i). kept-miss i (λ y z. omega (arith, all, counts-more (j + 1) i (omega arith) y))) (lt-or-ge i (j + 1))
-
-        at : (i : ℕ) → kept axis p P i ≡ eqb i (j + 1)
-        at i = go (ℕ-discrete i (j + 1))
-          where
-            go : Dec (i ≡ j + 1) → kept axis p P i ≡ eqb i (j + 1)
-            go (yes z) = ap (kept axis p P) z ∙ kept-hit (j + 1) (passes (P (j + 1)) refl s) all ∙ sym (eq-eqb _ _ z)
-            go (no z) = other i z ∙ sym (ne-eqb _ _ z)
+    pub only-at : (n j met : ℕ) (b : Bool) → j < n → met ≡ length (upTo j P) → met < p → b ≡ P (j + 1) → met + boolByte b ≡ p → Only n (kept axis p P) (j + 1)
+    only-at n j met true l q m s g = only-hit n (j + 1) (omega arith) (sym s) (sym (count-next j met true q s) ∙ g)
+    only-at n j met false l q m s g = absurd (omega arith)
 
     pub only-none : (n j end met : ℕ) → end ≤ j → met ≡ length (upTo j P) → met < p → ((i : ℕ) → end < i → i ≤ n → P i ≡ false) → Only n (kept axis p P) 0
     only-none n j end met l q m h = record { high = omega arith; are = λ i a b. at i b ∙ sym (ne-eqb i 0 (omega arith)) }

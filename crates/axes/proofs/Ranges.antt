@@ -18,7 +18,7 @@ use Rattle.trees.specs.Signature.{Entries, cell, entriesOf, width}
 use Rattle.xpath.specs.Axes.{siblingBefore, onAxis}
 use Rattle.xpath.specs.Ancestors.{inside-no, whole-no}
 use Rattle.axes.specs.Range.{NoneUpTo, NoneAfter, NoneFrom}
-use Rattle.axes.proofs.Cases.{self-other, between-no, child-no, sibling-early, sibling-root, sibling-parent, axis-self, axis-child, axis-descendant, axis-descendant-or-self, axis-parent, axis-ancestor, axis-ancestor-or-self, axis-following, axis-preceding, axis-following-sibling, axis-preceding-sibling}
+use Rattle.axes.proofs.Cases.{self-other, between-no, child-no, sibling-early, sibling-root, sibling-parent, axis-self, axis-child, axis-descendant, axis-descendant-or-self, axis-parent, axis-following, axis-preceding, axis-following-sibling, axis-preceding-sibling}
 
 -- j is no later sibling of a
 sibling-apart : (parent : ℕ → ℕ) (a j : ℕ) → (a < j → (parent a ≡ 0 → ⊥) → parent j ≡ parent a → ⊥) → siblingBefore parent a j ≡ false
@@ -59,12 +59,6 @@ module _ (n : ℕ) (e : Entries) (f : Facts n e) (axis c : ℕ) (lc : 1 ≤ c) (
     following-apart a w = axis-following axis n (e .fa) c j a ∙ whole-no n e f c j lc hc h w
 
     -- ---- not before the context
-
-    pub above-apart : axis ≡ 5 → (j < c → e .ff j ≤ c) → onAxis axis n (e .fa) c j ≡ false
-    above-apart a w = axis-ancestor axis n (e .fa) c j a ∙ inside-no n e f n j c l lc hc w
-
-    pub above-same-apart : axis ≡ 6 → (j ≡ c → ⊥) → (j < c → e .ff j ≤ c) → onAxis axis n (e .fa) c j ≡ false
-    above-same-apart a ne w = axis-ancestor-or-self axis n (e .fa) c j a ∙ self-other n (e .fa) j c ne ∙ inside-no n e f n j c l lc hc w
 
     pub preceding-apart : axis ≡ 8 → c ≤ j → onAxis axis n (e .fa) c j ≡ false
     preceding-apart a w = axis-preceding axis n (e .fa) c j a ∙ whole-no n e f j c l h hc (omega (arith, f .each j l h .ff-low))
@@ -111,20 +105,6 @@ module _ (n : ℕ) (e : Entries) (f : Facts n e) (axis c : ℕ) (lc : 1 ≤ c) (
       go : e .fa i ≡ c → (c < j) ⊎ (e .ff j ≤ c) → ⊥
       go q (inl x) = omega (arith, below .under)
       go q (inr x) = omega (arith, low)
-
-  ends : (c < j) ⊎ (e .ff j ≤ c) → i < c → e .ff i ≤ c
-  ends (inl x) q = absurd (omega arith)
-  ends (inr x) q = omega (arith, below .nested)
-
-  apart : (c < j) ⊎ (e .ff j ≤ c) → i ≡ c → ⊥
-  apart (inl x) q = omega arith
-  apart (inr x) q = omega arith
-
-  pub above-skip : axis ≡ 5 → onAxis axis n (e .fa) c i ≡ false
-  above-skip a = above-apart n e f axis c lc hc i (omega arith) h a (ends out)
-
-  pub above-same-skip : axis ≡ 6 → onAxis axis n (e .fa) c i ≡ false
-  above-same-skip a = above-same-apart n e f axis c lc hc i (omega arith) h a (apart out) (ends out)
 
   pub later-skip : axis ≡ 9 → onAxis axis n (e .fa) c i ≡ false
   later-skip a = later-is n e f axis c lc hc i (omega arith) h a (λ q r. go q r out)
@@ -222,15 +202,6 @@ module _ (n : ℕ) (e : Entries) (f : Facts n e) (axis c : ℕ) (lc : 1 ≤ c) (
   pub end-parent : axis ≡ 4 → r ≡ e .fa c → NoneAfter n On r
   end-parent a q = record { high = omega (arith, own .fa-high); none = λ j l h. parent-apart n e f axis c lc hc j a (omega arith) }
 
-  pub end-above : axis ≡ 5 → r ≡ c → NoneAfter n On r
-  end-above a q = record { high = omega arith; none = λ j l h. above-apart n e f axis c lc hc j (omega arith) h a (λ m. absurd (omega arith)) }
-
-  pub end-above-same : axis ≡ 6 → r ≡ c → NoneAfter n On r
-  end-above-same a q = record {
-    high = omega arith;
-    none = λ j l h. above-same-apart n e f axis c lc hc j (omega arith) h a (omega arith) (λ m. absurd (omega arith));
-  }
-
   pub end-preceding : axis ≡ 8 → r ≡ c → NoneAfter n On r
   end-preceding a q = record { high = omega arith; none = λ j l h. preceding-apart n e f axis c lc hc j (omega arith) h a (omega arith) }
 
@@ -276,12 +247,6 @@ module _ (n : ℕ) (e : Entries) (f : Facts n e) (axis c : ℕ) (lc : 1 ≤ c) (
 
     pub pass-child : axis ≡ 1 → NoneFrom n (onAxis axis n (e .fa) c) j r
     pass-child a = pass (λ i m g w. child-skip n e f axis c lc hc j l out i m g w a)
-
-    pub pass-above : axis ≡ 5 → NoneFrom n (onAxis axis n (e .fa) c) j r
-    pass-above a = pass (λ i m g w. above-skip n e f axis c lc hc j l out i m g w a)
-
-    pub pass-above-same : axis ≡ 6 → NoneFrom n (onAxis axis n (e .fa) c) j r
-    pass-above-same a = pass (λ i m g w. above-same-skip n e f axis c lc hc j l out i m g w a)
 
     pub pass-later : axis ≡ 9 → NoneFrom n (onAxis axis n (e .fa) c) j r
     pass-later a = pass (λ i m g w. later-skip n e f axis c lc hc j l out i m g w a)

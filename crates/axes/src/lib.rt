@@ -1,6 +1,9 @@
 // Layer 6, axes: the eleven axes with name test and position. Without a position they are taken in one pass; with one, each context is counted by itself.
+mod climb;
 mod reach;
 
+use blocks::first_past;
+use blocks::parent;
 use checking::BAD_ARGUMENT;
 use checking::Kind;
 use checking::PreRank;
@@ -8,21 +11,18 @@ use checking::Refusal;
 use checking::Verdict;
 use checking::Written;
 use checking::check_whole;
+use climb::find_above;
 use marks::is_fine;
 use marks::is_named;
 use marks::write_marked;
 use one_pass::axis_without_position;
 use reach::before_axis;
 use reach::end_of_axis;
-use reach::first_past;
-use reach::parent;
 use reach::skipped;
 ghost use mathlib.Core.Path.{_≡_};
 ghost use mathlib.Core.Bool.{true, false, _||_};
-ghost use Prim.Native.Nat.{_+_, _≤_};
-ghost use lib.Dec.{eqb};
+ghost use Prim.Native.Nat.{_≤_};
 ghost use lib.ListN.{length};
-ghost use Rattle.turns.specs.Pick.{pick};
 ghost use Rattle.trees.specs.Signature.{entriesOf, width, entries};
 ghost use Rattle.xpath.specs.Select.{within};
 ghost use Rattle.xpath.specs.Axes.{parentOf, ancestorOf, ancestorOrSelf, wholeBefore, siblingBefore, onAxis, chosen, kept, inAnswer, answerOf};
@@ -37,11 +37,7 @@ fn is_ancestor(sig: &[u16], n: u16, a: u16, j: u16) -> bool
     requires { ⌜ Ready (now sig) n × (1 ≤ a) × (a ≤ n) × (1 ≤ j) × (j ≤ n) ⌝ }
     ensures { λ r. ⌜ «r» ≡ ancestorOf n (entriesOf width (now (sig .entry)) .fa) a j ⌝ }
 {
-    if j <= a {
-        return false;
-    }
-    let past = first_past(sig, a);
-    if j < past { true } else { false }
+    (a < j) & (j < first_past(sig, PreRank(a)))
 }
 
 // Whether a is j or an ancestor of j.
@@ -49,10 +45,7 @@ fn is_ancestor_or_self(sig: &[u16], n: u16, a: u16, j: u16) -> bool
     requires { ⌜ Ready (now sig) n × (1 ≤ a) × (a ≤ n) × (1 ≤ j) × (j ≤ n) ⌝ }
     ensures { λ r. ⌜ «r» ≡ ancestorOrSelf n (entriesOf width (now (sig .entry)) .fa) a j ⌝ }
 {
-    if a == j {
-        return true;
-    }
-    is_ancestor(sig, n, a, j)
+    (a == j) | is_ancestor(sig, n, a, j)
 }
 
 // Whether j comes after a and all that is below a.
@@ -60,37 +53,23 @@ fn is_wholly_before(sig: &[u16], n: u16, a: u16, j: u16) -> bool
     requires { ⌜ Ready (now sig) n × (1 ≤ a) × (a ≤ n) × (1 ≤ j) × (j ≤ n) ⌝ }
     ensures { λ r. ⌜ «r» ≡ wholeBefore n (entriesOf width (now (sig .entry)) .fa) a j ⌝ }
 {
-    let past = first_past(sig, a);
-    if past <= j { true } else { false }
+    let past = first_past(sig, PreRank(a));
+    past <= j
 }
 
 // Whether a is the parent of j.
 fn is_parent(sig: &[u16], a: u16, j: u16) -> bool
     ensures { λ r. ⌜ «r» ≡ parentOf (entriesOf width (now (sig .entry)) .fa) a j ⌝ }
 {
-    let up = parent(sig, j);
-    if up == a { true } else { false }
+    parent(sig, PreRank(j)) == a
 }
 
 // Whether j is a sibling that comes after a.
 fn is_sibling_before(sig: &[u16], a: u16, j: u16) -> bool
     ensures { λ r. ⌜ «r» ≡ siblingBefore (entriesOf width (now (sig .entry)) .fa) a j ⌝ }
 {
-    if j <= a {
-        return false;
-    }
-    let up = parent(sig, a);
-    if up == 0 {
-        return false;
-    }
-    is_parent(sig, up, j)
-}
-
-// Whether two ranks are the same.
-fn is_same(a: u16, j: u16) -> bool
-    ensures { λ r. ⌜ «r» ≡ eqb a j ⌝ }
-{
-    if a == j { true } else { false }
+    let up = parent(sig, PreRank(a));
+    (a < j) & ((up != 0) & is_parent(sig, up, j))
 }
 
 // Whether j is on the axis of the context c.
@@ -99,7 +78,7 @@ fn is_on_axis(sig: &[u16], n: u16, axis: u16, c: u16, j: u16) -> bool
     ensures { λ r. ⌜ «r» ≡ onAxis axis n (entriesOf width (now (sig .entry)) .fa) c j ⌝ }
 {
     match axis {
-        0 => is_same(c, j),
+        0 => c == j,
         1 => is_parent(sig, c, j),
         2 => is_ancestor(sig, n, c, j),
         3 => is_ancestor_or_self(sig, n, c, j),
@@ -124,19 +103,8 @@ fn is_chosen(sig: &[u16], n: u16, axis: u16, test: u16, c: u16, j: u16) -> bool
     false
 }
 
-// The count after entry j: one more where j is chosen.
-fn counted(sig: &[u16], n: u16, axis: u16, test: u16, c: u16, j: u16, met: u16) -> u16
-    requires { ⌜ Ready (now sig) n × (axis ≤ 10) × (1 ≤ c) × (c ≤ n) × (1 ≤ j) × (j ≤ n) × (met ≤ 4096) ⌝ }
-    ensures { λ r. ⌜ r ≡ pick (chosen axis n (entriesOf width (now (sig .entry)) .fa) (entriesOf width (now (sig .entry)) .name) test c j) (met + 1) met ⌝ }
-{
-    if is_chosen(sig, n, axis, test, c, j) {
-        return met + 1;
-    }
-    met
-}
-
-// The rank of the element that is kept for one context, or 0. The search begins where the axis does and ends with it, or at the element.
-fn find_kept(sig: &[u16], n: u16, axis: u16, test: u16, p: u16, c: u16) -> u16
+// The rank of the element that is kept for one context, or 0, on any axis. The search begins where the axis does and ends with it, or at the element.
+fn find_along(sig: &[u16], n: u16, axis: u16, test: u16, p: u16, c: u16) -> u16
     requires { ⌜ Ready (now sig) n × (axis ≤ 10) × (1 ≤ p) × (1 ≤ c) × (c ≤ n) ⌝ }
     ensures { λ r. ⌜ Only n (kept axis p (chosen axis n (entriesOf width (now (sig .entry)) .fa) (entriesOf width (now (sig .entry)) .name) test c)) r ⌝ }
 {
@@ -145,13 +113,26 @@ fn find_kept(sig: &[u16], n: u16, axis: u16, test: u16, p: u16, c: u16) -> u16
     let mut j = before_axis(sig, n, axis, c);
     while j < end {
         j += 1;
-        met = counted(sig, n, axis, test, c, j, met);
+        met += is_chosen(sig, n, axis, test, c, j) as u16;
         if met == p {
             return j;
         }
         j = skipped(sig, n, axis, c, j);
     }
     0
+}
+
+// The rank of the element that is kept for one context, or 0. The ancestors of an element are what is met on the way up from its parent.
+fn find_kept(sig: &[u16], n: u16, axis: u16, test: u16, p: u16, c: u16) -> u16
+    requires { ⌜ Ready (now sig) n × (axis ≤ 10) × (1 ≤ p) × (1 ≤ c) × (c ≤ n) ⌝ }
+    ensures { λ r. ⌜ Only n (kept axis p (chosen axis n (entriesOf width (now (sig .entry)) .fa) (entriesOf width (now (sig .entry)) .name) test c)) r ⌝ }
+{
+    let up = parent(sig, PreRank(c));
+    match axis {
+        5 => find_above(sig, n, test, p, up),
+        6 => find_above(sig, n, test, p, c),
+        _ => find_along(sig, n, axis, test, p, c),
+    }
 }
 
 // Marks what is kept for one context, beside the marks that are there. Rank 0 is no element, so that its mark says nothing.

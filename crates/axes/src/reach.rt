@@ -1,28 +1,13 @@
 // Where the search for an element begins, ends and goes on: by the parent and the ff of an entry.
+use blocks::first_past;
+use blocks::parent;
 use checking::PreRank;
-use checking::entry_number;
 ghost use mathlib.Core.Path.{_≡_};
-ghost use mathlib.Core.Bool.{_&&_};
 ghost use Prim.Native.Nat.{_-_, _≤_};
-ghost use lib.Dec.{leb};
 ghost use Rattle.trees.specs.Signature.{entriesOf, width};
 ghost use Rattle.xpath.specs.Axes.{onAxis};
 ghost use Rattle.blocks.specs.Checked.{Ready};
 ghost use Rattle.axes.specs.Range.{NoneUpTo, NoneAfter, NoneFrom};
-
-// The parent of entry i, or 0.
-pub fn parent(sig: &[u16], i: u16) -> u16
-    ensures { λ r. ⌜ r ≡ entriesOf width (now (sig .entry)) .fa i ⌝ }
-{
-    entry_number(sig, PreRank(i), 3)
-}
-
-// The first rank after entry i that is not below it.
-pub fn first_past(sig: &[u16], i: u16) -> u16
-    ensures { λ r. ⌜ r ≡ entriesOf width (now (sig .entry)) .ff i ⌝ }
-{
-    entry_number(sig, PreRank(i), 2)
-}
 
 // One less, or 0.
 fn less_one(i: u16) -> u16
@@ -39,8 +24,8 @@ pub fn before_axis(sig: &[u16], n: u16, axis: u16, c: u16) -> u16
     requires { ⌜ Ready (now sig) n × (1 ≤ c) × (c ≤ n) ⌝ }
     ensures { λ r. ⌜ NoneUpTo n (onAxis axis n (entriesOf width (now (sig .entry)) .fa) c) r ⌝ }
 {
-    let up = parent(sig, c);
-    let past = first_past(sig, c);
+    let up = parent(sig, PreRank(c));
+    let past = first_past(sig, PreRank(c));
     match axis {
         0 => less_one(c),
         1 => c,
@@ -59,17 +44,15 @@ pub fn end_of_axis(sig: &[u16], n: u16, axis: u16, c: u16) -> u16
     requires { ⌜ Ready (now sig) n × (1 ≤ c) × (c ≤ n) ⌝ }
     ensures { λ r. ⌜ NoneAfter n (onAxis axis n (entriesOf width (now (sig .entry)) .fa) c) r ⌝ }
 {
-    let up = parent(sig, c);
-    let last = less_one(first_past(sig, c));
-    let row = less_one(first_past(sig, up));
+    let up = parent(sig, PreRank(c));
+    let last = less_one(first_past(sig, PreRank(c)));
+    let row = less_one(first_past(sig, PreRank(up)));
     match axis {
         0 => c,
         1 => last,
         2 => last,
         3 => last,
         4 => up,
-        5 => c,
-        6 => c,
         8 => c,
         9 => row,
         10 => c,
@@ -77,29 +60,17 @@ pub fn end_of_axis(sig: &[u16], n: u16, axis: u16, c: u16) -> u16
     }
 }
 
-// Whether c is one of the ranks from j to last.
-fn is_between(j: u16, c: u16, last: u16) -> bool
-    ensures { λ r. ⌜ «r» ≡ (leb j c && leb c last) ⌝ }
-{
-    if c < j {
-        return false;
-    }
-    if c <= last { true } else { false }
-}
-
 // The last rank below j, where c is not in the block of j and nothing below j is on the axis of c; else j.
 pub fn skipped(sig: &[u16], n: u16, axis: u16, c: u16, j: u16) -> u16
     requires { ⌜ Ready (now sig) n × (1 ≤ c) × (c ≤ n) × (1 ≤ j) × (j ≤ n) ⌝ }
     ensures { λ r. ⌜ NoneFrom n (onAxis axis n (entriesOf width (now (sig .entry)) .fa) c) j r ⌝ }
 {
-    let last = less_one(first_past(sig, j));
-    if is_between(j, c, last) {
+    let last = less_one(first_past(sig, PreRank(j)));
+    if (j <= c) & (c <= last) {
         return j;
     }
     match axis {
         1 => last,
-        5 => last,
-        6 => last,
         9 => last,
         10 => last,
         _ => j,

@@ -3,23 +3,22 @@
 --   one-level, one-place, one-block, one-axis   one result for each public call
 --   refused-writes-nothing      an axis call that refuses leaves the room as it was
 --   block-at-place, refused-block-empty, told-block-some   block is the part that block_place tells; empty exactly if that refuses
-use Prim.Native.Nat.{ℕ, _+_, _*_, _-_, _≤_, _<_}
+use Prim.Native.Nat.{ℕ, _≤_}
 use mathlib.Core.Path.{_≡_, refl, ap, _∙_, sym}
-use mathlib.Core.Logic.{_⊎_, inl, inr, ⊎-elim}
+use mathlib.Core.Logic.{⊎-elim}
 use mathlib.Core.List.{List, []}
 use mathlib.Core.Bool.{Bool, true, false}
 use native.Mathlib.Omega.{arith}
-use lib.ListN.{length, take, drop, length-take, length-drop}
+use lib.ListN.{length, take, drop, length-drop}
 use lib.Seq.{length-take-le}
 use lib.Dec.{leb, eqb}
-use borrow.Author.Tests.{leb-true}
 use Rattle.turns.specs.Pick.{pick}
 use Rattle.trees.specs.Signature.{entries}
 use Rattle.checking.specs.declared.Kind.{Kind}
 use Rattle.checking.specs.declared.Verdict.{Verdict}
 use Rattle.checking.specs.declared.Refusal.{Refusal}
 use Rattle.checking.specs.declared.Written.{Written}
-use Rattle.checking.specs.Stops.{Answered, answered}
+use Rattle.checking.specs.Stops.{Answered}
 use Rattle.checking.specs.Whole.{wholeOf, WholePromise}
 use Rattle.checked.specs.Apart.{answered-apart}
 use Rattle.blocks.specs.declared.LevelAnswer.{LevelAnswer}
@@ -27,7 +26,7 @@ use Rattle.blocks.specs.declared.PlaceAnswer.{PlaceAnswer}
 use Rattle.blocks.specs.Checked.{afterCheck, isRank}
 use Rattle.blocks.specs.Level.{Leveled, levelTold, LevelPromise}
 use Rattle.blocks.specs.Block.{Placed, placeTold, placeRefused, placeWithin, placeAnswer, PlacePromise, partAt, BlockPromise}
-use Rattle.checking.specs.Room.{Left, roomFor, refusedLeft, writtenLeft}
+use Rattle.checking.specs.Room.{roomFor, refusedLeft, writtenLeft}
 use Rattle.marks.specs.Axis.{axisAnswer, axisWithin, argumentsFine, answerIn, AxisPromise}
 use Rattle.blocks.proofs.Calls.{rank-inverse}
 use Rattle.blocks.proofs.Calls.{ready-of, after-accepted, accepted-or-not, place-yes, place-no, place-inside}

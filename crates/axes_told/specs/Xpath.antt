@@ -2,39 +2,30 @@
 --   axis-is-xpath        an axis call answers the elements of XPath's node set, in document order, each once
 --   level-is-ancestors   a level call answers the number of ancestors
 --   block-is-subtree     a block has the entries of an element and of all below it, and no other
-use Prim.Native.Nat.{ℕ, suc, _+_, _*_, _-_, _≤_, _<_}
-use mathlib.Core.Path.{_≡_, refl, ap, _∙_, sym, subst}
+use Prim.Native.Nat.{ℕ, _+_, _*_, _-_, _≤_, _<_}
+use mathlib.Core.Path.{_≡_, refl, ap, _∙_, sym}
 use mathlib.Core.Logic.{_⊎_, inl, inr, ⊎-elim}
-use mathlib.Core.List.{List, [], _∷_, _++_, map, List·Memᴰ, List·Memᴰ·head}
-use mathlib.Core.Bool.{Bool, true, false, _&&_}
+use mathlib.Core.List.{List, [], _∷_, _++_, map, List·Memᴰ·head}
+use mathlib.Core.Bool.{true}
 use native.Mathlib.Omega.{arith}
 use lib.ListN.{length, drop, length-map}
-use lib.Dec.{ltb, leb}
 use borrow.Author.Tests.{lt-ltb, le-leb}
-use Rattle.turns.specs.Turn.{Halt, Turned}
 use Rattle.trees.specs.Tree.{Tree, whole, size}
 use Rattle.trees.specs.Nodes.{Node, Ancestor}
 use Rattle.trees.specs.Ranks.{pre}
 use Rattle.trees.specs.Signature.{entriesOf, width, entries}
-use Rattle.trees.specs.Rows.{Holds}
 use Rattle.trees.specs.NodeRanks.{pre-low, pre-high, pre-injective}
 use Rattle.trees.specs.NodeOrder.{before-pre}
 use Rattle.trees.specs.NodeAncestors.{ancestor-below, below-ancestor}
 use Rattle.trees.specs.Meanings.{below-ff, ff-below}
 use Rattle.checking.specs.declared.Kind.{Kind}
 use Rattle.checking.specs.declared.Verdict.{Verdict}
-use Rattle.checking.specs.declared.Refusal.{Refusal}
 use Rattle.checking.specs.declared.Written.{Written}
-use Rattle.checking.specs.Kinds.{anyName, most}
-use Rattle.checking.specs.Rule.{fresh}
-use Rattle.checking.specs.Stops.{Answered, worked, refusedAs, answered, haltTold}
-use Rattle.checking.specs.Turn.{turnOf}
-use Rattle.checking.specs.Whole.{wholeOf, WholePromise}
+use Rattle.checking.specs.Stops.{worked, refusedAs, answered}
 use Rattle.checked.specs.Yields.{Words, Yields}
 use Rattle.checked.specs.Accepted.{Tree-of, tree-of}
 use Rattle.checked.specs.Wholly.{yields-accepted}
 use Rattle.xpath.specs.Select.{upTo, rises, within}
-use Rattle.xpath.specs.SelectLaws.{front}
 use Rattle.xpath.specs.Axes.{onAxis, inAnswer, answerOf}
 use Rattle.xpath.specs.Axes as Axes
 use Rattle.xpath.specs.OnNodes.{InOrder, Lists, InUnion}
@@ -42,8 +33,8 @@ use Rattle.xpath.specs.Says.{union-listed, axis-says}
 use Rattle.xpath.specs.NodeLists.{selected}
 use Rattle.blocks.specs.declared.LevelAnswer.{LevelAnswer}
 use Rattle.blocks.specs.declared.PlaceAnswer.{PlaceAnswer}
-use Rattle.blocks.specs.Level.{levelTold, levelWorked, levelRefused, levelWithin, LevelPromise}
-use Rattle.blocks.specs.Block.{Placed, placeTold, placeWorked, placeRefused, placeWithin, blockPlace, PlacePromise}
+use Rattle.blocks.specs.Level.{levelWorked, levelRefused, levelWithin, LevelPromise}
+use Rattle.blocks.specs.Block.{placeRefused, placeWithin, blockPlace, PlacePromise}
 use Rattle.checking.specs.Room.{Left, refusedLeft, roomFor}
 use Rattle.marks.specs.Axis.{axisWithin, axisAnswer, answerIn, AxisPromise}
 use Rattle.blocks.specs.Checked.{afterCheck}

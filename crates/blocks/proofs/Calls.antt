@@ -4,7 +4,7 @@
 --   rank-…            whether a rank is one of an entry
 --   level-…, place-…  which case of an answer holds
 --   part-…            the part that a place tells
-use Prim.Native.Nat.{ℕ, _+_, _*_, _-_, _≤_, _<_}
+use Prim.Native.Nat.{ℕ, _+_, _*_, _≤_, _<_}
 use native.Mathlib.Omega.{arith}
 use mathlib.Core.Path.{_≡_, refl, ap, _∙_, sym, subst}
 use mathlib.Core.List.{List, []}

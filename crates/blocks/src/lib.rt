@@ -26,18 +26,18 @@ pub enum PlaceAnswer {
     Refused(Refusal),
 }
 
-// The parent of entry i, or 0.
-fn parent(sig: &[u16], i: u16) -> u16
-    ensures { λ r. ⌜ r ≡ entriesOf width (now (sig .entry)) .fa i ⌝ }
+// The parent of an entry, or 0.
+pub fn parent(sig: &[u16], rank: PreRank) -> u16
+    ensures { λ r. ⌜ r ≡ entriesOf width (now (sig .entry)) .fa (rank .0) ⌝ }
 {
-    entry_number(sig, PreRank(i), 3)
+    entry_number(sig, rank, 3)
 }
 
-// The first rank after entry i that is not below it.
-fn first_past(sig: &[u16], i: u16) -> u16
-    ensures { λ r. ⌜ r ≡ entriesOf width (now (sig .entry)) .ff i ⌝ }
+// The first rank after an entry that is not below it.
+pub fn first_past(sig: &[u16], rank: PreRank) -> u16
+    ensures { λ r. ⌜ r ≡ entriesOf width (now (sig .entry)) .ff (rank .0) ⌝ }
 {
-    entry_number(sig, PreRank(i), 2)
+    entry_number(sig, rank, 2)
 }
 
 // The refusal with this number that names no entry.
@@ -66,11 +66,11 @@ fn climb(sig: &[u16], n: u16, start: u16) -> u16
     ensures { λ r. ⌜ r ≡ levelOf n (entriesOf width (now (sig .entry)) .fa) start ⌝ }
 {
     let mut i = start;
-    let mut up = parent(sig, i);
+    let mut up = parent(sig, PreRank(i));
     let mut level: u16 = 0;
     while 0 < up {
         i = up;
-        up = parent(sig, i);
+        up = parent(sig, PreRank(i));
         level += 1;
     }
     level
@@ -108,7 +108,7 @@ fn place_within(sig: &[u16], i: u16) -> PlaceAnswer
     let n = (sig.len() / 4) as u16;
     if is_rank(n, i) {
         let first = i as usize;
-        let past = first_past(sig, i) as usize;
+        let past = first_past(sig, PreRank(i)) as usize;
         return PlaceAnswer::Numbers(4 * (first - 1), 4 * (past - first));
     }
     PlaceAnswer::Refused(refusal(BAD_ARGUMENT))

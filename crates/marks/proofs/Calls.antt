@@ -3,17 +3,15 @@
 --   within-…, room-…  which case of an answer holds
 --   leaves-as, refused-leaves   what an equal answer leaves; what a refusal leaves
 --   short-leaves, fits-leaves   what is left where the marked ranks are too many for the room, and where they fit
-use Prim.Native.Nat.{ℕ, _+_, _≤_, _<_}
+use Prim.Native.Nat.{ℕ, _≤_, _<_}
 use native.Mathlib.Omega.{arith}
-use mathlib.Core.Path.{_≡_, refl, ap, _∙_, sym}
+use mathlib.Core.Path.{_≡_, refl, ap}
 use mathlib.Core.List.{List}
-use mathlib.Core.Bool.{Bool, true, false, _&&_, _||_, or-true, false≢true}
+use mathlib.Core.Bool.{Bool, true, false, _&&_, false≢true}
 use lib.ListN.{length}
-use lib.Dec.{leb, eqb}
-use borrow.Author.Tests.{le-leb, lt-leb, leb-true, eq-eqb, ne-eqb}
-use Rattle.turns.specs.Pick.{pick}
+use lib.Dec.{leb}
+use borrow.Author.Tests.{le-leb, lt-leb, leb-true}
 use Rattle.trees.specs.Signature.{entries}
-use Rattle.trees.specs.Names.{passes}
 use Rattle.checking.specs.declared.Refusal.{Refusal}
 use Rattle.checking.specs.declared.Written.{Written}
 use Rattle.checking.specs.Stops.{worked, refusedAs}

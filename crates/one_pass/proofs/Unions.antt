@@ -1,5 +1,5 @@
 -- What the passes mark, put together.
---   both-yes, first-no, second-no   two tests
+--   first-no, second-no   two tests, one of which fails
 --   none-or           where nothing had a mark
 --   same-arm, axis-arm, parents-arm   the marks of an axis
 --   or-same-below, or-same-above   an axis or the contexts themselves
@@ -25,9 +25,6 @@ use Rattle.marks.specs.Marks.{marked, Marks, lesser}
 use Rattle.marks.proofs.Marking.{lesser-first}
 
 module _ (a b : Bool) where
-  pub both-yes : a ≡ true → b ≡ true → (a && b) ≡ true
-  both-yes p q = simp (p, q)
-
   pub first-no : a ≡ false → (a && b) ≡ false
   first-no p = simp p
 

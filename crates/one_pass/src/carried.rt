@@ -1,6 +1,6 @@
 // Passes that carry one number along: below and following from the first entry up, above and preceding from the last one down.
+use blocks::first_past;
 use checking::PreRank;
-use checking::entry_number;
 ghost use mathlib.Core.Path.{_≡_};
 ghost use mathlib.Core.Bool.{_||_};
 ghost use lib.Dec.{eqb};
@@ -9,13 +9,6 @@ ghost use Rattle.trees.specs.Signature.{entriesOf, width};
 ghost use Rattle.xpath.specs.Spread.{spreadOf, raisedTo, loweredTo};
 ghost use Rattle.blocks.specs.Checked.{Ready};
 ghost use Rattle.marks.specs.Marks.{marked, Marks};
-
-// The first rank after entry i that is not below it.
-fn first_past(sig: &[u16], i: u16) -> u16
-    ensures { λ r. ⌜ r ≡ entriesOf width (now (sig .entry)) .ff i ⌝ }
-{
-    entry_number(sig, PreRank(i), 2)
-}
 
 // The greater of two numbers where the mark is set, else the first.
 fn raised(mark: u8, x: u16, y: u16) -> u16
@@ -52,7 +45,7 @@ pub fn mark_below(sig: &[u16], n: u16, from: &[u8; 4097], found: &mut [u8; 4097]
         j += 1;
         let at = j as usize;
         let before = reach;
-        reach = raised(from[at], before, first_past(sig, j));
+        reach = raised(from[at], before, first_past(sig, PreRank(j)));
         if j < before {
             found[at] = 1;
         }
@@ -70,7 +63,7 @@ pub fn mark_following(sig: &[u16], n: u16, from: &[u8; 4097], found: &mut [u8; 4
         j += 1;
         let at = j as usize;
         let before = past;
-        let own = first_past(sig, j);
+        let own = first_past(sig, PreRank(j));
         past = lowered(from[at], before, own);
         if before <= j {
             found[at] = 1;
@@ -88,7 +81,7 @@ pub fn mark_above(sig: &[u16], n: u16, from: &[u8; 4097], found: &mut [u8; 4097]
     while 0 < j {
         let at = j as usize;
         let after = next;
-        let past = first_past(sig, j);
+        let past = first_past(sig, PreRank(j));
         next = lowered(from[at], after, j);
         j -= 1;
         if after < past {
@@ -107,7 +100,7 @@ pub fn mark_preceding(sig: &[u16], n: u16, from: &[u8; 4097], found: &mut [u8; 4
     while 0 < j {
         let at = j as usize;
         let after = last;
-        let past = first_past(sig, j);
+        let past = first_past(sig, PreRank(j));
         last = raised(from[at], after, j);
         j -= 1;
         if past <= after {

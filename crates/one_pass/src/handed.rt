@@ -1,6 +1,6 @@
 // Passes that hand marks from an element to its parent, or from a parent to its children.
+use blocks::parent;
 use checking::PreRank;
-use checking::entry_number;
 ghost use mathlib.Core.Path.{_≡_};
 ghost use mathlib.Core.Bool.{false, not, _&&_, _||_};
 ghost use Prim.Native.Nat.{_≤_};
@@ -11,13 +11,6 @@ ghost use Rattle.trees.specs.Signature.{entriesOf, width};
 ghost use Rattle.xpath.specs.Spread.{spreadOf};
 ghost use Rattle.blocks.specs.Checked.{Ready};
 ghost use Rattle.marks.specs.Marks.{marked, Marks};
-
-// The parent of entry i, or 0.
-fn parent(sig: &[u16], i: u16) -> u16
-    ensures { λ r. ⌜ r ≡ entriesOf width (now (sig .entry)) .fa i ⌝ }
-{
-    entry_number(sig, PreRank(i), 3)
-}
 
 // Whether there is a parent and it has a mark.
 fn is_marked_above(marks: &[u8; 4097], up: u16) -> bool
@@ -51,7 +44,7 @@ pub fn mark_children(sig: &[u16], n: u16, from: &[u8; 4097], found: &mut [u8; 40
     while j < n {
         j += 1;
         let at = j as usize;
-        let up = parent(sig, j);
+        let up = parent(sig, PreRank(j));
         if is_marked_above(from, up) {
             found[at] = 1;
         }
@@ -67,7 +60,7 @@ pub fn mark_parents(sig: &[u16], n: u16, from: &[u8; 4097], found: &mut [u8; 409
     while j < n {
         j += 1;
         let at = j as usize;
-        let up = parent(sig, j);
+        let up = parent(sig, PreRank(j));
         hand_on(found, up, from[at]);
     }
 }
@@ -82,7 +75,7 @@ pub fn mark_later(sig: &[u16], n: u16, from: &[u8; 4097], found: &mut [u8; 4097]
     while j < n {
         j += 1;
         let at = j as usize;
-        let up = parent(sig, j);
+        let up = parent(sig, PreRank(j));
         let hit = is_marked_above(&seen, up);
         hand_on(&mut seen, up, from[at]);
         if hit {
@@ -100,7 +93,7 @@ pub fn mark_earlier(sig: &[u16], n: u16, from: &[u8; 4097], found: &mut [u8; 409
     let mut j = n;
     while 0 < j {
         let at = j as usize;
-        let up = parent(sig, j);
+        let up = parent(sig, PreRank(j));
         let hit = is_marked_above(&seen, up);
         hand_on(&mut seen, up, from[at]);
         j -= 1;

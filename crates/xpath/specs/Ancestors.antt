@@ -1,18 +1,17 @@
 -- On the entries of a tree, a is an ancestor of j exactly if j lies in the block of a.
 --   inside-yes, inside-no   of two ranks, by the way up
 --   whole-yes, whole-no     a comes before j and is no ancestor exactly if the block of a ends before j
-use Prim.Native.Nat.{ℕ, zero, suc, _+_, _≤_, _<_}
+use Prim.Native.Nat.{ℕ, zero, suc, _≤_, _<_}
 use mathlib.Core.Path.{_≡_, refl, ap, _∙_, sym}
 use mathlib.Core.Logic.{_⊎_, inl, inr, ⊎-elim}
-use mathlib.Core.Bool.{Bool, true, false, not, _&&_, _||_, or-true, or-false}
+use mathlib.Core.Bool.{Bool, true, false, _||_, or-true, or-false}
 use native.Mathlib.Omega.{arith}
 use native.Mathlib.Nat.{eq-or-lt-of-le}
 use native.Mathlib.Decide.{ℕ-discrete}
-use lib.Dec.{ltb, eqb}
+use lib.Dec.{eqb}
 use borrow.Author.Tests.{lt-ltb, le-ltb, eq-eqb, ne-eqb}
-use Rattle.turns.specs.Pick.{pick}
 use Rattle.trees.specs.Signature.{Entries}
-use Rattle.trees.specs.Facts.{Each, Inside, Follows, Facts}
+use Rattle.trees.specs.Facts.{Inside, Follows, Facts}
 use Rattle.trees.specs.Order.{lt-or-ge}
 use Rattle.xpath.specs.Axes.{met, parentOf, wholeBefore}
 

@@ -3,7 +3,7 @@
 --   kept-other       what does not pass is not kept
 --   kept-pth         what passes is kept exactly if it is the p-th
 use Prim.Native.Nat.{ℕ}
-use mathlib.Core.Path.{_≡_, refl, ap, _∙_, sym}
+use mathlib.Core.Path.{_≡_}
 use mathlib.Core.Bool.{Bool, true, false, _&&_, _||_}
 use lib.Dec.{eqb}
 use lib.ListN.{length}

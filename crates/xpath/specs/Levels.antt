@@ -2,16 +2,15 @@
 --   level-root    an entry with no parent has level 0
 --   level-up      any other is one level below its parent
 --   level-high    no level is over n
-use Prim.Native.Nat.{ℕ, zero, suc, _+_, _≤_, _<_}
-use mathlib.Core.Path.{_≡_, refl, ap, _∙_, sym}
+--   above-other   but for its parent, the ancestors of an entry are those of its parent
+use Prim.Native.Nat.{ℕ, _+_, _≤_, _<_}
+use mathlib.Core.Path.{_≡_, ap, _∙_, sym}
 use mathlib.Core.Logic.{_⊎_, inl, inr, ⊎-elim}
-use mathlib.Core.Bool.{Bool, true, false}
 use native.Mathlib.Omega.{arith}
 use lib.ListN.{length}
 use Rattle.trees.specs.Signature.{Entries}
 use Rattle.trees.specs.Facts.{Inside, Follows, Facts}
 use Rattle.trees.specs.Order.{lt-or-ge}
-use Rattle.xpath.specs.Select.{upTo}
 use Rattle.xpath.specs.SelectLaws.{up-none, up-one, up-length}
 use Rattle.xpath.specs.Axes.{met, onAxis, levelOf}
 use Rattle.xpath.specs.Ancestors.{inside-yes, inside-no}
@@ -33,8 +32,8 @@ module _ (n : ℕ) (e : Entries) (f : Facts n e) where
     own : Inside e (e .fa i) i
     own = f .own i (omega (arith, low)) h
 
-    same : (j : ℕ) → 1 ≤ j → j ≤ n → (j ≡ e .fa i → ⊥) → met (e .fa) n j i ≡ met (e .fa) n j (e .fa i)
-    same j lj hj ne =
+    pub above-other : (j : ℕ) → 1 ≤ j → j ≤ n → (j ≡ e .fa i → ⊥) → met (e .fa) n j i ≡ met (e .fa) n j (e .fa i)
+    above-other j lj hj ne =
         ⊎-elim (λ (m : j < e .fa i). above m (f .pair j (e .fa i) lj m (omega (arith, low))))
         (λ (g : e .fa i ≤ j). inside-no n e f n j i lj l h (λ m. below g m (f .pair j i lj m h))
         ∙ sym (inside-no n e f n j (e .fa i) lj up (omega (arith, low)) (λ m. absurd (omega arith))))
@@ -57,4 +56,4 @@ module _ (n : ℕ) (e : Entries) (f : Facts n e) where
     level-up =
         up-one (λ j. met (e .fa) n j i) (λ j. met (e .fa) n j (e .fa i)) n (e .fa i) up (omega (arith, low))
         (inside-yes n e f n (e .fa i) i up low h h (own .inside))
-        (inside-no n e f n (e .fa i) (e .fa i) up up (omega (arith, low)) (λ m. absurd (omega arith))) same
+        (inside-no n e f n (e .fa i) (e .fa i) up up (omega (arith, low)) (λ m. absurd (omega arith))) above-other

@@ -2,7 +2,7 @@
 --   order-last        one more at the end
 --   lists-unique      two lists of the same elements, in document order, are equal
 --   Selected, selected   the elements whose rank passes a test: their ranks are those selected
-use Prim.Native.Nat.{ℕ, zero, suc, _+_, _≤_, _<_}
+use Prim.Native.Nat.{ℕ, zero, suc, _≤_, _<_}
 use mathlib.Core.Path.{_≡_, refl, ap, _∙_, sym, subst}
 use mathlib.Core.Logic.{_⊎_, inl, inr, ⊎-elim}
 use mathlib.Core.List.{List, [], _∷_, _++_, map}
@@ -10,11 +10,10 @@ use mathlib.Core.List.{List·Memᴰ, List·Memᴰ·head, List·Memᴰ·tail, Lis
 use mathlib.Core.Bool.{Bool, true, false, false≢true}
 use native.Mathlib.Omega.{arith}
 use native.Mathlib.Nat.{eq-or-lt-of-le}
-use Rattle.turns.specs.Pick.{pick}
 use Rattle.trees.specs.Tree.{Forest, size}
 use Rattle.trees.specs.Nodes.{Node, Before}
 use Rattle.trees.specs.Ranks.{pre}
-use Rattle.trees.specs.NodeRanks.{pre-low, pre-high, pre-injective, node-at}
+use Rattle.trees.specs.NodeRanks.{pre-low, pre-injective, node-at}
 use Rattle.trees.specs.NodeOrder.{before-pre, pre-before}
 use Rattle.xpath.specs.Select.{upTo}
 use Rattle.xpath.specs.OnNodes.{InOrder, Lists}

@@ -5,20 +5,19 @@
 --   axis-says           all eleven axes
 --   kept-says           with name test and position
 --   union-says          for a list of contexts
-use Prim.Native.Nat.{ℕ, zero, suc, _+_, _≤_, _<_}
+use Prim.Native.Nat.{ℕ, _≤_, _<_}
 use mathlib.Core.Path.{_≡_, refl, ap, _∙_, sym, subst}
 use mathlib.Core.Logic.{_⊎_, inl, inr, ⊎-elim}
 use mathlib.Core.List.{List, [], _∷_, map, List·Memᴰ, List·Memᴰ·head, List·Memᴰ·tail, List·Memᴰ·cases-cons, List·Memᴰ·not-nil}
 use mathlib.Core.Bool.{Bool, true, false, not, _&&_, _||_, or-true, false≢true}
 use native.Mathlib.Omega.{arith}
 use native.Mathlib.Nat.{eq-or-lt-of-le}
-use native.Mathlib.Decide.{ℕ-discrete}
-use lib.Dec.{ltb, leb, eqb}
+use lib.Dec.{ltb, eqb}
 use lib.ListN.{length, length-map}
-use borrow.Author.Tests.{lt-ltb, ltb-true, le-leb, leb-true, eq-eqb, ne-eqb, eqb-true}
+use borrow.Author.Tests.{lt-ltb, ltb-true, eq-eqb, eqb-true}
 use Rattle.turns.specs.Pick.{pick}
 use Rattle.trees.specs.Tree.{Tree, whole, size}
-use Rattle.trees.specs.Nodes.{Node, nameOf, Parent, Ancestor, Before}
+use Rattle.trees.specs.Nodes.{Node, Parent, Ancestor, Before}
 use Rattle.trees.specs.Ranks.{pre}
 use Rattle.trees.specs.Signature.{Entries}
 use Rattle.trees.specs.Rows.{Holds}
@@ -31,10 +30,9 @@ use Rattle.trees.specs.NodeAncestors.{ancestor-below, below-ancestor}
 use Rattle.trees.specs.Meanings.{name-is, below-ff, ff-below, parent-fa, fa-parent, fa-some}
 use Rattle.trees.specs.Names.{passes}
 use Rattle.xpath.specs.Select.{upTo, some}
-use Rattle.xpath.specs.SelectLaws.{up-same}
 use Rattle.xpath.specs.Axes.{parentOf, ancestorOf, ancestorOrSelf, wholeBefore, siblingBefore, onAxis, chosen, pth, kept, inAnswer}
 use Rattle.xpath.specs.OnNodes.{Lists, Siblings, OnAxis, Passes, Chosen, Pth, Kept, InUnion}
-use Rattle.xpath.specs.NodeLists.{Selected, selected, lists-unique}
+use Rattle.xpath.specs.NodeLists.{selected, lists-unique}
 use Rattle.xpath.specs.Ancestors.{inside-yes, inside-no}
 
 -- the test holds exactly if A does

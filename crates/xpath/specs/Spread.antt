@@ -4,8 +4,8 @@
 --   Seen P lo hi c      c is one of the ranks lo to hi - 1 that pass P
 --   Greatest, Least     x is the greatest (least) number v c of the c in S; 0 (65,535) where S is empty
 --   spread-…            each axis by the number that is carried
-use Prim.Native.Nat.{ℕ, zero, suc, _+_, _-_, _≤_, _<_}
-use mathlib.Core.Path.{_≡_, refl, ap, _∙_, sym, subst}
+use Prim.Native.Nat.{ℕ, zero, suc, _+_, _≤_, _<_}
+use mathlib.Core.Path.{_≡_, refl, ap, _∙_, sym}
 use mathlib.Core.Logic.{_⊎_, inl, inr, ⊎-elim}
 use mathlib.Core.List.{List, [], _∷_}
 use mathlib.Core.Bool.{Bool, true, false, not, _&&_, _||_, or-true, and-false, false≢true}
@@ -13,14 +13,14 @@ use native.Mathlib.Omega.{arith}
 use native.Mathlib.Nat.{eq-or-lt-of-le}
 use native.Mathlib.Decide.{ℕ-discrete}
 use lib.ListN.{length, getD}
-use lib.Dec.{ltb, leb, eqb}
-use borrow.Author.Tests.{lt-ltb, le-ltb, le-leb, eq-eqb, ne-eqb, ltb-true, ltb-false, eqb-true}
+use lib.Dec.{ltb, eqb}
+use borrow.Author.Tests.{lt-ltb, le-ltb, eq-eqb, ne-eqb, ltb-true, ltb-false, eqb-true}
 use Rattle.turns.specs.Pick.{pick}
 use Rattle.trees.specs.Order.{lt-or-ge}
 use Rattle.trees.specs.Signature.{Entries}
 use Rattle.trees.specs.Facts.{Facts}
-use Rattle.xpath.specs.Select.{some, within}
-use Rattle.xpath.specs.Axes.{met, parentOf, wholeBefore, siblingBefore, onAxis}
+use Rattle.xpath.specs.Select.{some}
+use Rattle.xpath.specs.Axes.{met, parentOf, onAxis}
 use Rattle.xpath.specs.Ancestors.{inside-yes, inside-no, whole-yes, whole-no}
 
 -- one of the ranks 1 to n passes

@@ -6,7 +6,7 @@
 use Prim.Native.Nat.{ℕ, zero, suc, _≤_, _<_}
 use mathlib.Core.Path.{_≡_, refl, ap, _∙_, sym}
 use mathlib.Core.List.{List, [], _∷_}
-use mathlib.Core.Bool.{Bool, true, false, _&&_, _||_, or-true, or-assoc, and-false}
+use mathlib.Core.Bool.{Bool, true, false, _&&_, _||_, or-true, and-false}
 use native.Mathlib.Omega.{arith}
 use lib.ListN.{length, getD}
 use lib.Dec.{eqb}
@@ -14,7 +14,7 @@ use borrow.Author.Tests.{eq-eqb, eqb-true}
 use Rattle.trees.specs.Names.{passes}
 use Rattle.xpath.specs.Select.{some}
 use Rattle.xpath.specs.SelectLaws.{some-same}
-use Rattle.xpath.specs.Axes.{ancestorOf, ancestorOrSelf, onAxis, chosen, kept, inAnswer}
+use Rattle.xpath.specs.Axes.{ancestorOf, ancestorOrSelf, onAxis, chosen, inAnswer}
 use Rattle.xpath.specs.Kept.{kept-none}
 use Rattle.xpath.specs.Spread.{anyTo, any-yes, any-no, spreadOf, isContext, spread-some}
 

@@ -1,103 +1,49 @@
--- The count is that of the chosen elements up to j, and less than p.
-use Prim.Native.Nat.{_+_, _-_, _≤_, _<_}
-use mathlib.Core.Path.{_≡_}
-use lib.ListN.{length}
+-- The two axes of ancestors are the way up from the parent and from the context.
 use Rattle.trees.specs.Signature.{entriesOf, width}
-use Rattle.xpath.specs.Select.{upTo}
-use Rattle.xpath.specs.SelectLaws.{up-length}
-use Rattle.xpath.specs.Axes.{chosen}
-use Rattle.axes.proofs.Cases.{chosen-off}
-use Rattle.axes.proofs.Found.{count-next, count-start, count-skip, count-below, only-at, only-none}
+use Rattle.axes.proofs.Climbs.{top, above-kept, above-or-same-kept}
 use native.Mathlib.Omega.{arith}
 use borrow.Author.Needs.{needs}
 use Rattle.axes.proofs.find_kept.Statement.{statement}
 use Rattle.axes.proofs.find_kept.Tie as tie
 
-abbrev Inv-loop : tie.InvT-loop
-Inv-loop sig n axis test p c end met₀ j₀ met j =
-    (j ≤ n) × (met ≡ length (upTo j (chosen axis n (entriesOf width sig .fa) (entriesOf width sig .name) test c))) × (met < p)
+parent-requires : tie.Need-parent-requires
+parent-requires c κs = search needs
 
-abbrev μ-loop : tie.MeasureT-loop
-μ-loop sig n axis test p c end met₀ j₀ met j = n - j
+find-above-requires : tie.Need-find-above-requires
+find-above-requires c κs =
+    let p = c .before .before .before .pre in
+    (p .0, p .2, omega (arith, c .before .parent .ensures, p .0 .facts .each _ (p .3) (p .4) .fa-high, p .4))
 
-end-of-axis-requires : tie.Need-end-of-axis-requires Inv-loop μ-loop
-end-of-axis-requires c κs =
-    let p = c .before .pre in
-    (p .0, p .3, p .4)
+find-above-requires-2 : tie.Need-find-above-requires-2
+find-above-requires-2 c κs =
+    let p = c .before .before .before .pre in
+    (p .0, p .2, p .4)
 
-before-axis-requires : tie.Need-before-axis-requires Inv-loop μ-loop
-before-axis-requires c κs =
-    let p = c .before .before .pre in
-    (p .0, p .3, p .4)
+find-along-requires : tie.Need-find-along-requires
+find-along-requires c κs = c .before .before .before .pre
 
-loop-holds : tie.Need-loop-holds Inv-loop μ-loop
-loop-holds c =
-    let a = c .before .before .before .args in
-    let e = c .before-axis .ensures in
-    (e .high, count-start (chosen (a .axis) (a .n) (entriesOf width (a .sig .now) .fa) (entriesOf width (a .sig .now) .name) (a .test) (a .c)) _ (λ i l h. chosen-off _ _ _ _ _ _ _ (e .none i l h)), c .before .before .before .pre .2)
-
-add-j : tie.Need-add-j Inv-loop μ-loop
-add-j c = search needs
-
-counted-requires : tie.Need-counted-requires Inv-loop μ-loop
-counted-requires c κs =
-    let a = c .before .before .before .before .before .args in
-    let p = c .before .before .before .before .before .pre in
-    let l = c .before .loop in
-    let h : l .j < a .n = omega (arith, c .before .before .before .end-of-axis .ensures .high, c .loop-test .taken) in
-    (p .0, p .1, p .3, p .4, (omega arith), (omega arith), omega (arith, up-length (chosen (a .axis) (a .n) (entriesOf width (a .sig .now) .fa) (entriesOf width (a .sig .now) .name) (a .test) (a .c)) (l .j), l .inv .1, p .0 .small))
-
-returns : tie.Need-returns Inv-loop μ-loop
+returns : tie.Need-returns
 returns c =
-    let a = c .before .before .before .before .before .before .before .args in
-    let p = c .before .before .before .before .before .before .before .pre in
-    let l = c .before .before .before .loop in
-    let h : l .j < a .n = omega (arith, c .before .before .before .before .before .end-of-axis .ensures .high, c .before .before .loop-test .taken) in
-    only-at (chosen (a .axis) (a .n) (entriesOf width (a .sig .now) .fa) (entriesOf width (a .sig .now) .name) (a .test) (a .c)) (a .axis) (a .p) (p .2) _ _ (l .met) _ h (l .inv .1) (l .inv .2) (c .before .counted .ensures) (c .if1 .taken)
+    let a = c .before .before .before .before .args in
+    let p = c .before .before .before .before .pre in
+    above-kept (a .n) (entriesOf width (a .sig .now)) (p .0 .facts) (top _ _ (p .0 .facts)) (a .c) (p .3) (p .4) (a .axis) _ (a .test) (a .p) _ (c .before .match .keys1) (c .before .before .parent .ensures) (c .find-above .ensures)
 
-skipped-requires : tie.Need-skipped-requires Inv-loop μ-loop
-skipped-requires c κs =
-    let a = c .before .before .before .before .before .before .before .args in
-    let p = c .before .before .before .before .before .before .before .pre in
-    let l = c .before .before .before .loop in
-    let h : l .j < a .n = omega (arith, c .before .before .before .before .before .end-of-axis .ensures .high, c .before .before .loop-test .taken) in
-    (p .0, p .3, p .4, (omega arith), (omega arith))
-
-loop-less : tie.Need-loop-less Inv-loop μ-loop
-loop-less c = omega (arith, c .skipped .ensures .low, c .skipped .ensures .high)
-
-loop-again : tie.Need-loop-again Inv-loop μ-loop
-loop-again c =
-    let a = c .before .before .before .before .before .before .before .before .args in
-    let l = c .before .before .before .before .loop in
-    let e = c .skipped .ensures in
-    let k = count-next (chosen (a .axis) (a .n) (entriesOf width (a .sig .now) .fa) (entriesOf width (a .sig .now) .name) (a .test) (a .c)) (l .j) (l .met) _ (l .inv .1) (c .before .before .counted .ensures) in (
-      e .high,
-      count-skip (chosen (a .axis) (a .n) (entriesOf width (a .sig .now) .fa) (entriesOf width (a .sig .now) .name) (a .test) (a .c)) _ _ _ k (e .low) (λ i m h. chosen-off _ _ _ _ _ _ _ (e .none i m h)),
-      count-below (chosen (a .axis) (a .n) (entriesOf width (a .sig .now) .fa) (entriesOf width (a .sig .now) .name) (a .test) (a .c) (l .j + 1)) _ _ _ (c .before .before .counted .ensures) (l .inv .2) (c .before .if1 .left),
-    )
-
-returns-2 : tie.Need-returns-2 Inv-loop μ-loop
+returns-2 : tie.Need-returns-2
 returns-2 c =
-    let a = c .before .before .before .before .before .args in
-    let p = c .before .before .before .before .before .pre in
-    let l = c .before .loop in
-    let e = c .before .before .before .end-of-axis .ensures in
-    only-none (chosen (a .axis) (a .n) (entriesOf width (a .sig .now) .fa) (entriesOf width (a .sig .now) .name) (a .test) (a .c)) (a .axis) (a .p) (p .2) _ _ _ (l .met) (c .loop-test .left) (l .inv .1) (l .inv .2) (λ i m h. chosen-off _ _ _ _ _ _ _ (e .none i m h))
+    let a = c .before .before .before .before .args in
+    above-or-same-kept (a .n) (entriesOf width (a .sig .now)) (a .axis) (a .c) (a .test) (a .p) _ (c .before .match .keys2) (c .find-above2 .ensures)
+
+returns-3 : tie.Need-returns-3
+returns-3 c = c .find-along .ensures
 
 pub find-kept-spec : {M : Type 1} → statement M
 find-kept-spec =
     tie.close
     (tie.spec
-    Inv-loop
-    μ-loop
-    end-of-axis-requires
-    before-axis-requires
-    loop-holds
-    add-j
-    counted-requires
+    parent-requires
+    find-above-requires
+    find-above-requires-2
+    find-along-requires
     returns
-    skipped-requires
-    loop-less
-    loop-again
-    returns-2)
+    returns-2
+    returns-3)

@@ -7,9 +7,6 @@ use borrow.Author.Needs.{needs}
 use Rattle.axes.proofs.is_on_axis.Statement.{statement}
 use Rattle.axes.proofs.is_on_axis.Tie as tie
 
-is-same-requires : tie.Need-is-same-requires
-is-same-requires c κs = search needs
-
 is-parent-requires : tie.Need-is-parent-requires
 is-parent-requires c κs = search needs
 
@@ -41,7 +38,7 @@ is-sibling-before-requires-2 : tie.Need-is-sibling-before-requires-2
 is-sibling-before-requires-2 c κs = search needs
 
 returns : tie.Need-returns
-returns c = c .is-same .ensures ∙ sym (axis-self _ _ _ _ _ (c .before .match .keys1))
+returns c = sym (axis-self _ _ _ _ _ (c .match .keys1))
 
 returns-2 : tie.Need-returns-2
 returns-2 c = c .is-parent .ensures ∙ sym (axis-child _ _ _ _ _ (c .before .match .keys2))
@@ -77,7 +74,6 @@ pub is-on-axis-spec : {M : Type 1} → statement M
 is-on-axis-spec =
     tie.close
     (tie.spec
-    is-same-requires
     is-parent-requires
     is-ancestor-requires
     is-ancestor-or-self-requires

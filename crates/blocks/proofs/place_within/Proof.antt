@@ -21,20 +21,20 @@ first-past-requires c κs = search needs
 cast-past : tie.Need-cast-past
 cast-past c = search needs
 
-sub-t10 : tie.Need-sub-t10
-sub-t10 c =
+sub-t11 : tie.Need-sub-t11
+sub-t11 c =
     let k = rank-inverse _ _ (sym (c .before .before .is-rank .ensures) ∙ c .before .if1 .taken) in omega (arith, k .low)
 
-mul-t11 : tie.Need-mul-t11
-mul-t11 c = search needs
+mul-t12 : tie.Need-mul-t12
+mul-t12 c = search needs
 
-sub-t12 : tie.Need-sub-t12
-sub-t12 c =
+sub-t13 : tie.Need-sub-t13
+sub-t13 c =
     let k = rank-inverse _ _ (sym (c .before .before .is-rank .ensures) ∙ c .before .if1 .taken) in
     omega (arith, c .before .before .before .before .pre .facts .each (c .before .before .before .before .args .i) (k .low) (k .high) .ff-low)
 
-mul-t13 : tie.Need-mul-t13
-mul-t13 c = search needs
+mul-t14 : tie.Need-mul-t14
+mul-t14 c = search needs
 
 returns : tie.Need-returns
 returns c =
@@ -57,10 +57,10 @@ place-within-spec =
     is-rank-requires
     first-past-requires
     cast-past
-    sub-t10
-    mul-t11
-    sub-t12
-    mul-t13
+    sub-t11
+    mul-t12
+    sub-t13
+    mul-t14
     returns
     refusal-requires
     returns-2)

@@ -8,7 +8,8 @@ use Rattle.trees.specs.Signature.{entriesOf, width}
 use Rattle.trees.specs.Names.{passes}
 use Rattle.marks.specs.Marks.{marked}
 use Rattle.marks.proofs.Marking.{Over, mark-yes, mark-no, part-none, part-hit, part-miss, part-done}
-use Rattle.one_pass.proofs.Unions.{both-yes, first-no, second-no}
+use Rattle.turns.specs.Truth.{and-both}
+use Rattle.one_pass.proofs.Unions.{first-no, second-no}
 use native.Mathlib.Omega.{arith}
 use borrow.Author.Needs.{needs}
 use Rattle.one_pass.proofs.mark_named.Statement.{statement}
@@ -49,7 +50,7 @@ loop-again c =
       (omega arith),
       simp length-set (l .inv .1),
       part-hit _ _ _ _ _ (l .inv .2)
-          (both-yes (marked (a .found .now) (l .j + 1)) (passes (a .test) (entriesOf width (a .sig .now) .name (l .j + 1))) (mark-yes _ _ (c .before .before .if1 .taken)) (sym (c .before .is-named .ensures) ∙ c .if2 .taken)) (omega (arith, l .inv .1, c .before .before .before .before .before .before .before .pre .0)),
+          (and-both (marked (a .found .now) (l .j + 1)) (passes (a .test) (entriesOf width (a .sig .now) .name (l .j + 1))) (mark-yes _ _ (c .before .before .if1 .taken)) (sym (c .before .is-named .ensures) ∙ c .if2 .taken)) (omega (arith, l .inv .1, c .before .before .before .before .before .before .before .pre .0)),
     )
 
 loop-less-2 : tie.Need-loop-less-2 Inv-loop μ-loop

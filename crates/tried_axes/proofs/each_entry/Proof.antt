@@ -1,5 +1,4 @@
 -- The loop goes through a range.
-use native.Mathlib.Omega.{arith}
 use borrow.Author.Needs.{needs}
 use Prim.Native.Nat.{_-_, _≤_}
 use Rattle.tried_axes.proofs.each_entry.Statement.{statement}

@@ -2,7 +2,7 @@
 use Prim.Native.Nat.{ℕ, _-_}
 use mathlib.Core.Path.{refl, ap, _∙_}
 use Rattle.trees.specs.Signature.{cell, width}
-use Rattle.axes.proofs.Ranges.{row-high, end-self, end-child, end-below, end-below-same, end-parent, end-above, end-above-same, end-preceding, end-later, end-earlier, end-any}
+use Rattle.axes.proofs.Ranges.{row-high, end-self, end-child, end-below, end-below-same, end-parent, end-preceding, end-later, end-earlier, end-any}
 use borrow.Author.Needs.{needs}
 use Rattle.axes.proofs.reach.end_of_axis.Statement.{statement}
 use Rattle.axes.proofs.reach.end_of_axis.Tie as tie
@@ -50,30 +50,20 @@ returns-5 c =
 returns-6 : tie.Need-returns-6
 returns-6 c =
     let p = c .before .before .before .before .before .before .before .pre in
-    end-above _ _ (p .0 .facts) _ _ (p .1) (p .2) _ (c .match .keys6) refl
+    end-preceding _ _ (p .0 .facts) _ _ (p .1) (p .2) _ (c .match .keys6) refl
 
 returns-7 : tie.Need-returns-7
 returns-7 c =
     let p = c .before .before .before .before .before .before .before .pre in
-    end-above-same _ _ (p .0 .facts) _ _ (p .1) (p .2) _ (c .match .keys7) refl
+    end-later _ _ (p .0 .facts) _ _ (p .1) (p .2) _ (c .match .keys7) (row-high _ _ (p .0 .facts) _ (p .1) (p .2)) (c .before .less-one2 .ensures ∙ ap (λ (x : ℕ). x - 1) (c .before .before .first-past2 .ensures ∙ ap (λ (i : ℕ). cell width (c .before .before .before .before .before .before .before .args .sig .now) i 2) (c .before .before .before .before .before .parent .ensures)))
 
 returns-8 : tie.Need-returns-8
 returns-8 c =
     let p = c .before .before .before .before .before .before .before .pre in
-    end-preceding _ _ (p .0 .facts) _ _ (p .1) (p .2) _ (c .match .keys8) refl
+    end-earlier _ _ (p .0 .facts) _ _ (p .1) (p .2) _ (c .match .keys8) refl
 
 returns-9 : tie.Need-returns-9
 returns-9 c =
-    let p = c .before .before .before .before .before .before .before .pre in
-    end-later _ _ (p .0 .facts) _ _ (p .1) (p .2) _ (c .match .keys9) (row-high _ _ (p .0 .facts) _ (p .1) (p .2)) (c .before .less-one2 .ensures ∙ ap (λ (x : ℕ). x - 1) (c .before .before .first-past2 .ensures ∙ ap (λ (i : ℕ). cell width (c .before .before .before .before .before .before .before .args .sig .now) i 2) (c .before .before .before .before .before .parent .ensures)))
-
-returns-10 : tie.Need-returns-10
-returns-10 c =
-    let p = c .before .before .before .before .before .before .before .pre in
-    end-earlier _ _ (p .0 .facts) _ _ (p .1) (p .2) _ (c .match .keys10) refl
-
-returns-11 : tie.Need-returns-11
-returns-11 c =
     let p = c .before .before .before .before .before .before .before .pre in
     end-any _ _ (p .0 .facts) _ _ (p .1) (p .2) _ refl
 
@@ -94,6 +84,4 @@ end-of-axis-spec =
     returns-6
     returns-7
     returns-8
-    returns-9
-    returns-10
-    returns-11)
+    returns-9)

@@ -1,7 +1,7 @@
 -- Each arm is the law of one axis; where nothing is passed over there is nothing to show.
 use Prim.Native.Nat.{ℕ, _-_}
-use mathlib.Core.Path.{refl, ap, _∙_, sym}
-use Rattle.axes.proofs.Ranges.{pass-none, pass-child, pass-above, pass-above-same, pass-later, pass-earlier}
+use mathlib.Core.Path.{refl, ap, _∙_}
+use Rattle.axes.proofs.Ranges.{pass-none, pass-child, pass-later, pass-earlier}
 use borrow.Author.Needs.{needs}
 use Rattle.axes.proofs.reach.skipped.Statement.{statement}
 use Rattle.axes.proofs.reach.skipped.Tie as tie
@@ -12,47 +12,32 @@ first-past-requires c κs = search needs
 less-one-requires : tie.Need-less-one-requires
 less-one-requires c κs = search needs
 
-is-between-requires : tie.Need-is-between-requires
-is-between-requires c κs = search needs
-
 returns : tie.Need-returns
 returns c =
-    let p = c .before .before .before .before .before .pre in
+    let p = c .before .before .before .before .pre in
     pass-none _ _ (p .0 .facts) _ _ (p .1) (p .2) _ (p .3) (p .4) _ refl
 
 returns-2 : tie.Need-returns-2
 returns-2 c =
-    let p = c .before .before .before .before .before .before .pre in
-    let q = c .before .before .before .less-one .ensures ∙ ap (λ (x : ℕ). x - 1) (c .before .before .before .before .first-past .ensures) in
-    pass-child _ _ (p .0 .facts) _ _ (p .1) (p .2) _ (p .3) (p .4) _ q (sym (c .before .before .is-between .ensures) ∙ c .before .if1 .left) (c .match .keys1)
+    let p = c .before .before .before .before .before .pre in
+    let q = c .before .before .less-one .ensures ∙ ap (λ (x : ℕ). x - 1) (c .before .before .before .first-past .ensures) in
+    pass-child _ _ (p .0 .facts) _ _ (p .1) (p .2) _ (p .3) (p .4) _ q (c .before .if1 .left) (c .match .keys1)
 
 returns-3 : tie.Need-returns-3
 returns-3 c =
-    let p = c .before .before .before .before .before .before .pre in
-    let q = c .before .before .before .less-one .ensures ∙ ap (λ (x : ℕ). x - 1) (c .before .before .before .before .first-past .ensures) in
-    pass-above _ _ (p .0 .facts) _ _ (p .1) (p .2) _ (p .3) (p .4) _ q (sym (c .before .before .is-between .ensures) ∙ c .before .if1 .left) (c .match .keys2)
+    let p = c .before .before .before .before .before .pre in
+    let q = c .before .before .less-one .ensures ∙ ap (λ (x : ℕ). x - 1) (c .before .before .before .first-past .ensures) in
+    pass-later _ _ (p .0 .facts) _ _ (p .1) (p .2) _ (p .3) (p .4) _ q (c .before .if1 .left) (c .match .keys2)
 
 returns-4 : tie.Need-returns-4
 returns-4 c =
-    let p = c .before .before .before .before .before .before .pre in
-    let q = c .before .before .before .less-one .ensures ∙ ap (λ (x : ℕ). x - 1) (c .before .before .before .before .first-past .ensures) in
-    pass-above-same _ _ (p .0 .facts) _ _ (p .1) (p .2) _ (p .3) (p .4) _ q (sym (c .before .before .is-between .ensures) ∙ c .before .if1 .left) (c .match .keys3)
+    let p = c .before .before .before .before .before .pre in
+    let q = c .before .before .less-one .ensures ∙ ap (λ (x : ℕ). x - 1) (c .before .before .before .first-past .ensures) in
+    pass-earlier _ _ (p .0 .facts) _ _ (p .1) (p .2) _ (p .3) (p .4) _ q (c .before .if1 .left) (c .match .keys3)
 
 returns-5 : tie.Need-returns-5
 returns-5 c =
-    let p = c .before .before .before .before .before .before .pre in
-    let q = c .before .before .before .less-one .ensures ∙ ap (λ (x : ℕ). x - 1) (c .before .before .before .before .first-past .ensures) in
-    pass-later _ _ (p .0 .facts) _ _ (p .1) (p .2) _ (p .3) (p .4) _ q (sym (c .before .before .is-between .ensures) ∙ c .before .if1 .left) (c .match .keys4)
-
-returns-6 : tie.Need-returns-6
-returns-6 c =
-    let p = c .before .before .before .before .before .before .pre in
-    let q = c .before .before .before .less-one .ensures ∙ ap (λ (x : ℕ). x - 1) (c .before .before .before .before .first-past .ensures) in
-    pass-earlier _ _ (p .0 .facts) _ _ (p .1) (p .2) _ (p .3) (p .4) _ q (sym (c .before .before .is-between .ensures) ∙ c .before .if1 .left) (c .match .keys5)
-
-returns-7 : tie.Need-returns-7
-returns-7 c =
-    let p = c .before .before .before .before .before .before .pre in
+    let p = c .before .before .before .before .before .pre in
     pass-none _ _ (p .0 .facts) _ _ (p .1) (p .2) _ (p .3) (p .4) _ refl
 
 pub skipped-spec : {M : Type 1} → statement M
@@ -61,11 +46,8 @@ skipped-spec =
     (tie.spec
     first-past-requires
     less-one-requires
-    is-between-requires
     returns
     returns-2
     returns-3
     returns-4
-    returns-5
-    returns-6
-    returns-7)
+    returns-5)
