@@ -1,7 +1,7 @@
 -- The loop counts to len.
 use native.Mathlib.Omega.{arith}
 use borrow.Author.Needs.{needs}
-use Prim.Native.Nat.{_+_, _-_, _≤_}
+use Prim.Native.Nat.{_-_, _≤_}
 use Rattle.tried_ordered.proofs.printed.numbers.Statement.{statement}
 use Rattle.tried_ordered.proofs.printed.numbers.Tie as tie
 
