@@ -1,7 +1,7 @@
 -- The room: which case of its promise holds, and stores one after the other.
 --   room-refused, room-short, room-written   the three cases
 --   front-sets                               stores from the front on leave the result there, and the rest as it was
-use Prim.Native.Nat.{ℕ, suc, _+_, _-_, _≤_, _<_}
+use Prim.Native.Nat.{ℕ, suc, _+_, _≤_, _<_}
 use mathlib.Core.Path.{_≡_, refl, ap, _∙_, sym}
 use mathlib.Core.List.{List, [], _∷_, _++_}
 use native.Mathlib.Omega.{arith}
@@ -11,7 +11,7 @@ use lib.Seq.{sets, sets-eq, length-sets}
 use borrow.Author.Tests.{eq-eqb, ne-eqb, le-leb, lt-leb}
 use Rattle.checking.specs.Stops.{Answered, answered, worked, refusedAs}
 use Rattle.checking.specs.declared.Written.{Written}
-use Rattle.checking.specs.Room.{Left, leftBy, roomFor, frontWith, RoomPromise}
+use Rattle.checking.specs.Room.{Left, leftBy, roomFor, frontWith, Leaves}
 
 pub front-sets : (result room : List ℕ) → length result ≤ length room → sets room 0 result ≡ frontWith result room
 front-sets result room h =
@@ -37,35 +37,35 @@ module _ (number entry : ℕ) (result room : List ℕ) where
   written-is h l = simp (eq-eqb _ _ h, le-leb _ _ l)
 
   promised : (a : Answered) (w : Written) (after : List ℕ) → leftBy number entry result room ≡ record { answer = a; room = after }
-      → answered w ≡ a → RoomPromise number entry result room w after
+      → answered w ≡ a → Leaves (leftBy number entry result room) w after
   promised a w after q e =
       record { told = e ∙ ap (λ (x : Left). x .answer) (sym q); left = ap (λ (x : Left). x .room) (sym q) }
 
   pub room-refused : (w : Written) (after : List ℕ) → (number ≡ 0 → ⊥) → answered w ≡ refusedAs number entry
-      → after ≡ room → RoomPromise number entry result room w after
+      → after ≡ room → Leaves (leftBy number entry result room) w after
   room-refused w after h e q = rw q (promised _ w room (refused-is h) e)
 
   pub room-short : (w : Written) (after : List ℕ) → number ≡ 0 → length room < length result
-      → answered w ≡ refusedAs 10 0 → after ≡ room → RoomPromise number entry result room w after
+      → answered w ≡ refusedAs 10 0 → after ≡ room → Leaves (leftBy number entry result room) w after
   room-short w after h l e q = rw q (promised _ w room (short-is h l) e)
 
   pub room-written : (w : Written) (after : List ℕ) → number ≡ 0 → length result ≤ length room
       → answered w ≡ worked (length result) → after ≡ frontWith result room
-      → RoomPromise number entry result room w after
+      → Leaves (leftBy number entry result room) w after
   room-written w after h l e q = rw q (promised _ w _ (written-is h l) e)
 
 -- the same, as a call meets them: f is the fault that its judging pass found
 module _ (number : ℕ) (result room : List ℕ) (w : Written) (f : ℕ) (is : f ≡ number) where
-  pub refused-with : w ≡ refusedBy f 0 → (f ≡ 0 → ⊥) → RoomPromise number 0 result room w room
+  pub refused-with : w ≡ refusedBy f 0 → (f ≡ 0 → ⊥) → Leaves (leftBy number 0 result room) w room
   refused-with q h =
       room-refused number 0 result room w room (λ z. h (is ∙ z))
       (ap answered q ∙ ap (λ (n : ℕ). refusedAs n 0) is) refl
 
-  pub short-with : w ≡ refusedBy 10 0 → f ≡ 0 → length room < length result → RoomPromise number 0 result room w room
+  pub short-with : w ≡ refusedBy 10 0 → f ≡ 0 → length room < length result → Leaves (leftBy number 0 result room) w room
   short-with q h l = room-short number 0 result room w room (sym is ∙ h) l (ap answered q) refl
 
   pub written-with : (k : ℕ) (after : List ℕ) → w ≡ Written.Length k → f ≡ 0 → k ≡ length result → length result ≤ length room
-      → after ≡ frontWith result room → RoomPromise number 0 result room w after
+      → after ≡ frontWith result room → Leaves (leftBy number 0 result room) w after
   written-with k after q h e l r =
       room-written number 0 result room w after (sym is ∙ h) l
       (ap answered q ∙ ap (λ (n : ℕ). worked n) e) r

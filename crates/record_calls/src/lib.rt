@@ -17,7 +17,7 @@ pub fn read_records(bytes: &[u8], room: &mut [u16], out: &mut [u64; 2]) -> u16
 pub fn write_records(sig: &[u16], room: &mut [u8], out: &mut [u64; 2]) -> u16
     ensures { λ r. ⌜ WriteNumbers (now (sig .entry)) (now (room .entry)) r (now (room .exit)) (now (out .exit)) ⌝ }
 {
-    let answer = records::write_records(sig, room);
+    let answer = record_writing::write_records(sig, room);
     tell_written(answer, out)
 }
 

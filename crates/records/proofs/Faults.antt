@@ -2,7 +2,7 @@
 --   records-…         the end of the records
 --   record-…          the refusals of a record, in their order
 --   record-passed     what a record without refusal is
-use Prim.Native.Nat.{ℕ, _+_, _-_, _/_, _≤_, _<_}
+use Prim.Native.Nat.{ℕ, _+_, _/_, _≤_, _<_}
 use mathlib.Core.Path.{_≡_, refl, ap}
 use mathlib.Core.Bool.{Bool, true, false, not, _&&_}
 use mathlib.Core.List.{List}
@@ -30,14 +30,6 @@ module _ (b : List ℕ) (st : Scan) where
   pub records-more : (st .at ≡ length b → ⊥) → recordsEnd b st ≡ false
   unfolding recordsEnd
   records-more h = simp (ne-eqb _ _ h)
-
-  pub records-none : st .count ≤ 0 → recordsEnd b st ≡ false
-  unfolding recordsEnd
-  records-none h = go (eqb (st .at) (length b))
-    where
-      go : (t : Bool) → (t && ltb 0 (st .count)) ≡ false
-      go true = le-ltb _ _ h
-      go false = refl
 
   pub record-cut : length b < st .at + 2 → recordFault b st ≡ 1
   unfolding recordFault

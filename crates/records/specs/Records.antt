@@ -6,7 +6,7 @@
 --   bytesFrom s k n         the records of n entries, from number k of the signature on
 --   readLeft, writeLeft     what the two calls answer and leave
 --   ReadPromise, WritePromise   the promises of the two calls
-use Prim.Native.Nat.{ℕ, zero, suc, _+_, _*_, _/_}
+use Prim.Native.Nat.{ℕ, zero, suc, _+_, _*_}
 use mathlib.Core.Bool.{Bool, false, not, _&&_, _||_}
 use mathlib.Core.List.{List, [], _∷_}
 use lib.ListN.{length, getD}

@@ -2,12 +2,12 @@
 --   …-shut-refusing   refusing everything, with any numbers
 --   …-shut-fixed      one fixed answer
 --   …-shut-idle       a call that does nothing to the room
-use Prim.Native.Nat.{ℕ, _/_}
+use Prim.Native.Nat.{ℕ}
 use mathlib.Core.Path.{_≡_, refl, ap, _∙_, sym}
-use mathlib.Core.Bool.{true, false}
+use mathlib.Core.Bool.{false}
 use mathlib.Core.List.{List, [], _∷_}
 use native.Mathlib.Omega.{arith}
-use lib.ListN.{length, getD}
+use lib.ListN.{getD}
 use Rattle.turns.specs.Turn.{run}
 use Rattle.trees.specs.Signature.{cell}
 use Rattle.trees.specs.Tags.{tagsOf, opened, closed, rowsOf, oneTree, treeOf}
@@ -20,7 +20,7 @@ use Rattle.checking.specs.declared.Written.{Written}
 use Rattle.bytes_read.specs.Bytes.{marked}
 use Rattle.bytes_read.specs.Scans.{stepBy, haltNumber}
 use Rattle.checking.specs.Room.{Left, leftBy, roomFor, Leaves}
-use Rattle.records.specs.Records.{recordFault, recordsEnd, recordsScan, numbersFrom, bytesFrom, namelessFrom, writeFault, readLeft, writeLeft, ReadPromise, WritePromise}
+use Rattle.records.specs.Records.{recordFault, recordsEnd, numbersFrom, bytesFrom, namelessFrom, writeFault, readLeft, writeLeft, ReadPromise, WritePromise}
 use Rattle.tag_lists.specs.declared.TreeRead.{TreeRead}
 use Rattle.tag_scan.specs.TagLists.{tagBytes, closedWith, namelessAt, misnested, tagFault, tagNext, treeEnd, treeScan, tagsFrom, numbersIn}
 use Rattle.tag_lists.specs.Readers.{readTold, tagsLeft, TagsPromise, TreePromise}

@@ -2,7 +2,7 @@
 --   Fine w                      the verdict before room: it worked, or 10 was given
 --   tags-accepted-exactly       bytes are taken exactly if they are the tag list of a tree of the kind
 --   tags-signature              and what is written then is that tree's signature
-use Prim.Native.Nat.{ℕ, _+_, _≤_}
+use Prim.Native.Nat.{ℕ, _≤_}
 use mathlib.Core.Path.{_≡_, refl, ap, _∙_, sym, subst}
 use mathlib.Core.Logic.{_⊎_, inl, inr}
 use mathlib.Core.Bool.{true}

@@ -1,7 +1,7 @@
 -- Signature records there and back.
 --   Readable, records-read   records that are read without a refusal: how many, all with names, and written back the same bytes
 --   records-written          a signature that is written without a refusal, read back, is the same numbers
-use Prim.Native.Nat.{ℕ, zero, suc, _+_, _-_, _*_, _≤_, _<_}
+use Prim.Native.Nat.{ℕ, zero, suc, _+_, _*_, _≤_, _<_}
 use mathlib.Core.Path.{_≡_, refl, ap, _∙_, sym, subst}
 use mathlib.Core.Logic.{_⊎_, inl, inr}
 use mathlib.Core.Bool.{Bool, true, false, _||_, _&&_}

@@ -14,7 +14,7 @@ use Rattle.checking.specs.declared.Refusal.{Refusal}
 use Rattle.checking.specs.declared.Written.{Written}
 use Rattle.checked.specs.Apart.{answered-apart}
 use Rattle.tag_lists.specs.declared.TreeRead.{TreeRead}
-use Rattle.checking.specs.Room.{Left, leftBy, frontWith, Leaves, RoomPromise}
+use Rattle.checking.specs.Room.{Left, leftBy, frontWith, Leaves}
 use Rattle.tag_lists.specs.Readers.{ReadTold, readTold, ReadLeft}
 use Rattle.bytes_read.proofs.Rooms.{refused-is, short-is, written-is}
 
@@ -63,7 +63,7 @@ module _ (number entry : ℕ) (result room : List ℕ) where
       go (yes h) (yes l) = written h l (written-is number entry result room h l)
       go (yes h) (no l) = short h (omega arith) (short-is number entry result room h (omega arith))
 
-  module _ (w : Written) (after : List ℕ) (p : RoomPromise number entry result room w after) where
+  module _ (w : Written) (after : List ℕ) (p : Leaves (leftBy number entry result room) w after) where
     -- "A refused single call … writes nothing"
     pub refused-writes-nothing : (r : Refusal) → w ≡ Written.Refused r → after ≡ room
     refused-writes-nothing r q = go which

@@ -14,7 +14,7 @@ use borrow.Author.Tests.{eqb-false}
 use Rattle.turns.specs.Turn.{stay, move}
 use Rattle.trees.specs.Tree.{Tree, size, whole, NotZero, Allowed, Grown}
 use Rattle.trees.specs.Signature.{signature}
-use Rattle.trees.specs.Tags.{Tag, opens, closes, treeTags}
+use Rattle.trees.specs.Tags.{Tag, treeTags}
 use Rattle.bytes_read.specs.Bytes.{numberAt, low, high}
 use Rattle.bytes_read.specs.Scans.{Scan, haltNumber}
 use Rattle.tag_scan.specs.TagLists.{opening, closing, namelessAt, treeScan, tagBytes, tagsFrom, numbersIn}

@@ -1,7 +1,7 @@
 -- "10 is given exactly if the result is longer than the room": contents that are refused are never refused as a room that is too small.
 --   TenExactly   10 exactly if nothing before room is refused and the result is longer than the room
 --   read-ten-exactly, write-ten-exactly, tags-ten-exactly, tree-ten-exactly, back-ten-exactly   of each call, over its promise
-use Prim.Native.Nat.{ℕ, _+_, _-_, _*_, _/_, _%_, _<_, _≤_}
+use Prim.Native.Nat.{ℕ, _+_, _-_, _*_, _/_, _%_, _<_}
 use mathlib.Core.Path.{_≡_, refl, ap, _∙_, sym}
 use mathlib.Core.Logic.{_⊎_, inl, inr}
 use mathlib.Core.Bool.{Bool, true, false, not}

@@ -1,21 +1,21 @@
 -- Building a signature in the room: tag by tag it becomes the signature of the tree that the tags tell.
---   open-…, close-…       one tag
+--   entry-there, close-…  one tag
 --   buildOf               all tags of a list
 --   build-row, build-tree the tags of a row, and of a tree, leave its signature in the room
---   Builds, builds-…      a loop that builds
 --   whole-numbers         tags that are one whole tree: which tree, and its signature
+--   Built, built-…        a loop that builds
 use Prim.Native.Nat.{ℕ, suc, _+_, _-_, _*_, _≤_, _<_}
 use mathlib.Core.Path.{_≡_, refl, ap, _∙_, sym}
-use mathlib.Core.Bool.{Bool, true, false, _&&_}
+use mathlib.Core.Bool.{Bool, true, false, _||_}
 use mathlib.Core.List.{List, [], _∷_, _++_, append-assoc, append-nil}
 use native.Mathlib.Omega.{arith}
 use lib.ListN.{length, getD, drop, set, length-append, length-drop}
 use lib.Seq.{sets, length-sets, set-at, getD-at, drop-drop}
-use lib.Dec.{ltb, leb}
-use borrow.Author.Tests.{lt-ltb, le-ltb, le-leb, lt-leb}
+use lib.Dec.{ltb, eqb}
+use borrow.Author.Tests.{ne-eqb, eqb-false, le-ltb, ltb-false}
 use Rattle.turns.specs.Pick.{pick}
 use Rattle.trees.specs.Tree.{Forest, none, elem, size, Tree, whole}
-use Rattle.trees.specs.Signature.{cell, rowSignature, signature, width}
+use Rattle.trees.specs.Signature.{rowSignature, signature}
 use Rattle.trees.specs.Listed.{signature-length}
 use Rattle.trees.specs.Tags.{Tag, opens, closes, tagsOf, treeTags, treeOf, WholeTags}
 use Rattle.trees.specs.TagLaws.{tags-length, tags-read}
@@ -24,65 +24,57 @@ use Rattle.bytes_read.specs.Bytes.{numberAt}
 use Rattle.checking.specs.Room.{frontWith}
 use Rattle.tag_scan.specs.TagLists.{opening, tagsFrom, treeNumbers, numbersIn}
 use Rattle.tag_scan.proofs.TagsFrom.{tags-length-from, tags-open, tags-close, tags-none}
-use Rattle.tag_lists.specs.Builds.{openRoom, closeRoom}
+use Rattle.tag_lists.specs.Builds.{openRoom, lacks, closeRoom, parentIn}
 
 -- ---- one tag
 
-module _ (room : List ℕ) (n a top : ℕ) where
-  pub open-in : 4 * n + 4 ≤ length room → openRoom room n a top ≡ sets room (4 * n) (a ∷ 0 ∷ 0 ∷ top ∷ [])
-  unfolding openRoom
-  open-in h = simp (le-leb _ _ h)
+module _ (room : List ℕ) (top : ℕ) where
+  has-entry : 0 < top → 4 * top ≤ length room → lacks room top ≡ false
+  has-entry h l = simp (ne-eqb (4 * top) 0 (λ z. omega (arith, z)), le-ltb _ _ l)
 
-  pub open-out : length room < 4 * n + 4 → openRoom room n a top ≡ room
-  unfolding openRoom
-  open-out h = simp (lt-leb _ _ h)
-
-  open-long : length (openRoom room n a top) ≡ length room
-  unfolding openRoom
-  open-long = go (leb (4 * n + 4) (length room))
+  pub entry-there : lacks room top ≡ false → (0 < top) × (4 * top ≤ length room)
+  entry-there = go (eqb (4 * top) 0) (ltb (length room) (4 * top)) refl refl
     where
-      go : (t : Bool) → length (pick t (sets room (4 * n) (a ∷ 0 ∷ 0 ∷ top ∷ [])) room) ≡ length room
-      go true = length-sets room (4 * n) (a ∷ 0 ∷ 0 ∷ top ∷ [])
-      go false = refl
+      go : (s t : Bool) → eqb (4 * top) 0 ≡ s → ltb (length room) (4 * top) ≡ t → (s || t) ≡ false → (0 < top) × (4 * top ≤ length room)
+      go true t u v h = let z : _≡_ {A = ℕ} 0 1 = cc in absurd (omega arith)
+      go false true u v h = let z : _≡_ {A = ℕ} 0 1 = cc in absurd (omega arith)
+      go false false u v h = let n = eqb-false (4 * top) 0 u in (omega (arith, n), ltb-false (length room) (4 * top) v)
 
-module _ (room : List ℕ) (top p f : ℕ) where
-  pub close-in : 0 < top → 4 * top ≤ length room → closeRoom room top p f ≡ sets room (4 * (top - 1) + 1) (p ∷ f ∷ [])
-  unfolding closeRoom
-  close-in h l = simp (lt-ltb _ _ h, le-leb _ _ l)
+  pub close-lacking : (p f : ℕ) → lacks room top ≡ true → (0 ≡ parentIn room top) × (room ≡ closeRoom room top p f)
+  unfolding closeRoom parentIn
+  close-lacking p f h = (simp h, simp h)
 
-  pub close-none : top ≤ 0 → closeRoom room top p f ≡ room
-  unfolding closeRoom
-  close-none h = simp (le-ltb _ _ h)
+  -- its two stores, and what is read before them
+  pub close-stores : (p f : ℕ) → lacks room top ≡ false
+      → (getD room (4 * top - 1) 0 ≡ parentIn room top) × (set (set room (4 * top - 3) p) (4 * top - 2) f ≡ closeRoom room top p f)
+  unfolding closeRoom parentIn
+  close-stores p f h =
+      let w = entry-there h in
+      let v : 4 * top - 2 ≡ suc (4 * top - 3) = omega (arith, w .0) in
+      (simp h, simp h (ap (λ (k : ℕ). set (set room (4 * top - 3) p) k f) v))
 
-  pub close-out : length room < 4 * top → closeRoom room top p f ≡ room
+  close-in : (p f : ℕ) → 0 < top → 4 * top ≤ length room → closeRoom room top p f ≡ sets room (4 * top - 3) (p ∷ f ∷ [])
   unfolding closeRoom
-  close-out h = go (ltb 0 top) (lt-leb _ _ h)
+  close-in p f h l = simp (has-entry h l)
+
+  parent-in : 0 < top → 4 * top ≤ length room → parentIn room top ≡ getD room (4 * top - 1) 0
+  unfolding parentIn
+  parent-in h l = simp (has-entry h l)
+
+  pub close-long : (p f : ℕ) → length (closeRoom room top p f) ≡ length room
+  unfolding closeRoom
+  close-long p f = go (lacks room top)
     where
-      go : (t : Bool) → leb (4 * top) (length room) ≡ false → pick (t && leb (4 * top) (length room)) (sets room (4 * (top - 1) + 1) (p ∷ f ∷ [])) room ≡ room
-      go true k = simp k
-      go false k = refl
-
-  -- its two stores, counted from the end of the entry
-  pub close-stores : 0 < top → set (set room (4 * top - 3) p) (4 * top - 2) f ≡ sets room (4 * (top - 1) + 1) (p ∷ f ∷ [])
-  close-stores h =
-      let u : 4 * top - 3 ≡ 4 * (top - 1) + 1 = omega arith in
-      let v : 4 * top - 2 ≡ suc (4 * (top - 1) + 1) = omega arith in
-      cc
-
-  close-long : length (closeRoom room top p f) ≡ length room
-  unfolding closeRoom
-  close-long = go (ltb 0 top && leb (4 * top) (length room))
-    where
-      go : (t : Bool) → length (pick t (sets room (4 * (top - 1) + 1) (p ∷ f ∷ [])) room) ≡ length room
-      go true = length-sets room (4 * (top - 1) + 1) (p ∷ f ∷ [])
-      go false = refl
+      go : (t : Bool) → length (pick t room (sets room (4 * top - 3) (p ∷ f ∷ []))) ≡ length room
+      go true = refl
+      go false = length-sets room (4 * top - 3) (p ∷ f ∷ [])
 
 -- ---- all tags of a list: i elements opened, top the innermost open one, c closed
 
 unfoldable pub buildOf : List Tag → ℕ → ℕ → ℕ → List ℕ → List ℕ
 buildOf [] i top c room = room
 buildOf (opens a ∷ l) i top c room = buildOf l (i + 1) (i + 1) c (openRoom room i a top)
-buildOf (closes ∷ l) i top c room = buildOf l i (cell width room top 3) (c + 1) (closeRoom room top (c + 1) (i + 1))
+buildOf (closes ∷ l) i top c room = buildOf l i (parentIn room top) (c + 1) (closeRoom room top (c + 1) (i + 1))
 
 pub build-eq : (l : List Tag) {i j top up c d : ℕ} {room lent : List ℕ} → i ≡ j → top ≡ up → c ≡ d → room ≡ lent
     → buildOf l i top c room ≡ buildOf l j up d lent
@@ -106,19 +98,23 @@ sets-seam pre x₀ x₁ x₂ x₃ junk n a b c d e =
 
 -- the entry of an element that closes: its parent is read, its post and ff are written
 module _ (pre : List ℕ) (i a x y up : ℕ) (rest : List ℕ) (e : length pre ≡ 4 * i) where
-  entry-up : cell width (pre ++ a ∷ x ∷ y ∷ up ∷ rest) (i + 1) 3 ≡ up
-  unfolding cell
-  entry-up =
-      ap (λ (r : List ℕ). getD r (4 * (i + 1 - 1) + 3) 0) (sym (append-assoc pre (a ∷ x ∷ y ∷ []) (up ∷ rest)))
-      ∙ getD-at (pre ++ a ∷ x ∷ y ∷ []) up rest 0 (4 * (i + 1 - 1) + 3) (length-append pre (a ∷ x ∷ y ∷ []) ∙ omega arith)
+  entry-fits : 4 * (i + 1) ≤ length (pre ++ a ∷ x ∷ y ∷ up ∷ rest)
+  entry-fits = omega (arith, e, length-append pre (a ∷ x ∷ y ∷ up ∷ rest))
 
-  entry-closed : (p f : ℕ) → sets (pre ++ a ∷ x ∷ y ∷ up ∷ rest) (4 * (i + 1 - 1) + 1) (p ∷ f ∷ []) ≡ pre ++ a ∷ p ∷ f ∷ up ∷ rest
+  entry-up : parentIn (pre ++ a ∷ x ∷ y ∷ up ∷ rest) (i + 1) ≡ up
+  entry-up =
+      parent-in _ _ (omega arith) entry-fits
+      ∙ ap (λ (r : List ℕ). getD r (4 * (i + 1) - 1) 0) (sym (append-assoc pre (a ∷ x ∷ y ∷ []) (up ∷ rest)))
+      ∙ getD-at (pre ++ a ∷ x ∷ y ∷ []) up rest 0 (4 * (i + 1) - 1) (length-append pre (a ∷ x ∷ y ∷ []) ∙ omega arith)
+
+  entry-closed : (p f : ℕ) → closeRoom (pre ++ a ∷ x ∷ y ∷ up ∷ rest) (i + 1) p f ≡ pre ++ a ∷ p ∷ f ∷ up ∷ rest
   entry-closed p f =
-      ap (λ (r : List ℕ). set (set r (4 * (i + 1 - 1) + 1) p) (suc (4 * (i + 1 - 1) + 1)) f) (sym (append-assoc pre (a ∷ []) (x ∷ y ∷ up ∷ rest)))
-      ∙ ap (λ (r : List ℕ). set r (suc (4 * (i + 1 - 1) + 1)) f)
-      (set-at (pre ++ a ∷ []) x (y ∷ up ∷ rest) p (4 * (i + 1 - 1) + 1) (length-append pre (a ∷ []) ∙ omega arith)
+      close-in _ _ p f (omega arith) entry-fits
+      ∙ ap (λ (r : List ℕ). set (set r (4 * (i + 1) - 3) p) (suc (4 * (i + 1) - 3)) f) (sym (append-assoc pre (a ∷ []) (x ∷ y ∷ up ∷ rest)))
+      ∙ ap (λ (r : List ℕ). set r (suc (4 * (i + 1) - 3)) f)
+      (set-at (pre ++ a ∷ []) x (y ∷ up ∷ rest) p (4 * (i + 1) - 3) (length-append pre (a ∷ []) ∙ omega arith)
       ∙ append-assoc pre (a ∷ []) (p ∷ y ∷ up ∷ rest) ∙ sym (append-assoc pre (a ∷ p ∷ []) (y ∷ up ∷ rest)))
-      ∙ set-at (pre ++ a ∷ p ∷ []) y (up ∷ rest) f (suc (4 * (i + 1 - 1) + 1)) (length-append pre (a ∷ p ∷ []) ∙ omega arith)
+      ∙ set-at (pre ++ a ∷ p ∷ []) y (up ∷ rest) f (suc (4 * (i + 1) - 3)) (length-append pre (a ∷ p ∷ []) ∙ omega arith)
       ∙ append-assoc pre (a ∷ p ∷ []) (f ∷ up ∷ rest)
 
 -- ---- the tags of a row leave its signature
@@ -137,12 +133,12 @@ build-row (elem a k r) l i top c pre (x₀ ∷ x₁ ∷ x₂ ∷ x₃ ∷ junk) 
     ap (λ (t : List Tag). buildOf t (i + 1) (i + 1) c (openRoom (pre ++ x₀ ∷ x₁ ∷ x₂ ∷ x₃ ∷ junk) i a top))
     (append-assoc (tagsOf k) (closes ∷ tagsOf r) l)
     ∙ build-eq (tagsOf k ++ closes ∷ (tagsOf r ++ l)) refl refl refl
-    (open-in (pre ++ x₀ ∷ x₁ ∷ x₂ ∷ x₃ ∷ junk) i a top (omega (arith, e, length-append pre (x₀ ∷ x₁ ∷ x₂ ∷ x₃ ∷ junk)))
-    ∙ sets-seam pre x₀ x₁ x₂ x₃ junk (4 * i) a 0 0 top e ∙ sym (append-assoc pre (a ∷ 0 ∷ 0 ∷ top ∷ []) junk))
+    (sets-seam pre x₀ x₁ x₂ x₃ junk (4 * i) a 0 0 top e ∙ sym (append-assoc pre (a ∷ 0 ∷ 0 ∷ top ∷ []) junk))
     ∙ build-row k (closes ∷ (tagsOf r ++ l)) (i + 1) (i + 1) c (pre ++ a ∷ 0 ∷ 0 ∷ top ∷ []) junk
     (length-append pre (a ∷ 0 ∷ 0 ∷ top ∷ []) ∙ omega arith) (omega arith)
     ∙ build-eq (closes ∷ (tagsOf r ++ l)) {room = lower 0 0} refl refl refl (ap (λ (s : List ℕ). s ++ rest) (append-assoc pre (a ∷ 0 ∷ 0 ∷ top ∷ []) below) ∙ append-assoc pre (a ∷ 0 ∷ 0 ∷ top ∷ below) rest)
-    ∙ build-eq (tagsOf r ++ l) refl (entry-up pre i a 0 0 top (below ++ rest) e) refl closes-there
+    ∙ build-eq (tagsOf r ++ l) refl (entry-up pre i a 0 0 top (below ++ rest) e) refl
+    (entry-closed pre i a 0 0 top (below ++ rest) e (c + size k + 1) (i + 1 + size k + 1))
     ∙ build-eq (tagsOf r ++ l) {lent = upper ++ rest} refl refl refl seam
     ∙ build-row r l (i + 1 + size k) top (c + size k + 1) upper rest upper-length (omega (arith, length-drop (4 * size k) junk))
     ∙ build-eq l (omega arith) refl (omega arith) last
@@ -158,13 +154,6 @@ build-row (elem a k r) l i top c pre (x₀ ∷ x₁ ∷ x₂ ∷ x₃ ∷ junk) 
 
     upper : List ℕ
     upper = pre ++ a ∷ (c + size k + 1) ∷ (i + 1 + size k + 1) ∷ top ∷ below
-
-    closes-there : closeRoom (pre ++ a ∷ 0 ∷ 0 ∷ top ∷ (below ++ rest)) (i + 1) (c + size k + 1) (i + 1 + size k + 1)
-        ≡ pre ++ a ∷ (c + size k + 1) ∷ (i + 1 + size k + 1) ∷ top ∷ (below ++ rest)
-    closes-there =
-        close-in (pre ++ a ∷ 0 ∷ 0 ∷ top ∷ (below ++ rest)) (i + 1) (c + size k + 1) (i + 1 + size k + 1) (omega arith)
-        (omega (arith, e, length-append pre (a ∷ 0 ∷ 0 ∷ top ∷ (below ++ rest))))
-        ∙ entry-closed pre i a 0 0 top (below ++ rest) e (c + size k + 1) (i + 1 + size k + 1)
 
     seam : pre ++ a ∷ (c + size k + 1) ∷ (i + 1 + size k + 1) ∷ top ∷ (below ++ rest) ≡ upper ++ rest
     seam = sym (append-assoc pre (a ∷ (c + size k + 1) ∷ (i + 1 + size k + 1) ∷ top ∷ below) rest)
@@ -218,40 +207,50 @@ whole-numbers b p n h =
 
 -- ---- a loop that builds
 
--- what is left of the tags would make the room what all of them make it
-pub record Builds (b : List ℕ) (all : List Tag) (room₀ room : List ℕ) (left at size top closed : ℕ) : Type 0 where
-  pub same : buildOf (tagsFrom b left at) size top closed room ≡ buildOf all 0 0 0 room₀
+-- size elements were opened and closed ones closed, by the tags from place p to place at: with any number of tags after them they make of the room at the
+-- start what those after them make of the room here
+pub record Built (b : List ℕ) (p : ℕ) (room₀ room : List ℕ) (at size top closed : ℕ) : Type 0 where
+  pub same : (rest : ℕ) → buildOf (tagsFrom b rest at) size top closed room ≡ buildOf (tagsFrom b (size + closed + rest) p) 0 0 0 room₀
   pub long : length room ≡ length room₀
 
-pub builds-start : (b : List ℕ) (p n left : ℕ) (room : List ℕ) → left ≡ n → Builds b (tagsFrom b n p) room room left p 0 0 0
-builds-start b p n left room e = record { same = ap (λ (k : ℕ). buildOf (tagsFrom b k p) 0 0 0 room) e; long = refl }
+pub built-start : (b : List ℕ) (p : ℕ) (room : List ℕ) → Built b p room room p 0 0 0
+built-start b p room = record {
+  same = λ rest. let e : rest ≡ 0 + 0 + rest = omega arith in ap (λ (k : ℕ). buildOf (tagsFrom b k p) 0 0 0 room) e;
+  long = refl;
+}
 
-module _ (b : List ℕ) (all : List Tag) (room₀ room : List ℕ) (left at size top closed : ℕ) (g : Builds b all room₀ room left at size top closed) where
-  pub builds-end : left ≡ 0 → room ≡ buildOf all 0 0 0 room₀
+module _ (b : List ℕ) (p : ℕ) (room₀ room : List ℕ) (at size top closed : ℕ) (g : Built b p room₀ room at size top closed) where
+  -- the tags of one whole tree leave its signature
+  pub built-end : closed ≡ size → WholeTags (tagsFrom b (2 * size) p) → 4 * size ≤ length room₀ → room ≡ frontWith (numbersIn b p size) room₀
   unfolding buildOf
-  builds-end z = ap (λ (l : List Tag). buildOf l size top closed room) (sym (tags-none b left at z)) ∙ g .same
+  built-end z w h =
+      let t = whole-numbers b p size w in
+      let e : size + closed + 0 ≡ 2 * size = omega arith in
+      ap (λ (l : List Tag). buildOf l size top closed room) (sym (tags-none b 0 at refl)) ∙ g .same 0
+      ∙ ap (λ (k : ℕ). buildOf (tagsFrom b k p) 0 0 0 room₀) e ∙ ap (λ (l : List Tag). buildOf l 0 0 0 room₀) (sym (t .tags))
+      ∙ build-tree (t .tree) room₀ (omega (arith, t .many)) ∙ ap (λ (s : List ℕ). frontWith s room₀) (sym (t .numbers))
 
-  -- one tag less is left
-  less : (rest : ℕ) → left ≡ suc rest → buildOf (tagsFrom b (suc rest) at) size top closed room ≡ buildOf all 0 0 0 room₀
-  less rest e = ap (λ (k : ℕ). buildOf (tagsFrom b k at) size top closed room) (sym e) ∙ g .same
-
-  pub builds-open : (rest name : ℕ) (after : List ℕ) → left ≡ suc rest → opening b at ≡ true → name ≡ numberAt b (at + 2)
-      → after ≡ openRoom room size name top → Builds b all room₀ after rest (at + 4) (size + 1) (size + 1) closed
+  pub built-open : (name : ℕ) (after : List ℕ) → opening b at ≡ true → name ≡ numberAt b (at + 2)
+      → after ≡ openRoom room size name top → Built b p room₀ after (at + 4) (size + 1) (size + 1) closed
   unfolding buildOf
-  builds-open rest name after e h n q =
+  built-open name after h n q =
       let r = q ∙ ap (λ (x : ℕ). openRoom room size x top) n in
       record {
-        same = ap (buildOf (tagsFrom b rest (at + 4)) (size + 1) (size + 1) closed) r
-            ∙ ap (λ (l : List Tag). buildOf l size top closed room) (sym (tags-open b rest at h)) ∙ less rest e;
-        long = ap length r ∙ open-long room size (numberAt b (at + 2)) top ∙ g .long;
+        same = λ rest. let e : size + closed + suc rest ≡ size + 1 + closed + rest = omega arith in
+            ap (buildOf (tagsFrom b rest (at + 4)) (size + 1) (size + 1) closed) r
+            ∙ ap (λ (l : List Tag). buildOf l size top closed room) (sym (tags-open b rest at h)) ∙ g .same (suc rest)
+            ∙ ap (λ (k : ℕ). buildOf (tagsFrom b k p) 0 0 0 room₀) e;
+        long = ap length r ∙ length-sets room (4 * size) (numberAt b (at + 2) ∷ 0 ∷ 0 ∷ top ∷ []) ∙ g .long;
       }
 
-  pub builds-close : (rest up : ℕ) (after : List ℕ) → left ≡ suc rest → opening b at ≡ false → up ≡ cell width room top 3
-      → after ≡ closeRoom room top (closed + 1) (size + 1) → Builds b all room₀ after rest (at + 2) size up (closed + 1)
+  pub built-close : (up : ℕ) (after : List ℕ) → opening b at ≡ false → up ≡ parentIn room top
+      → after ≡ closeRoom room top (closed + 1) (size + 1) → Built b p room₀ after (at + 2) size up (closed + 1)
   unfolding buildOf
-  builds-close rest up after e h u q = record {
-    same = ap (λ (r : List ℕ). buildOf (tagsFrom b rest (at + 2)) size up (closed + 1) r) q
+  built-close up after h u q = record {
+    same = λ rest. let e : size + closed + suc rest ≡ size + (closed + 1) + rest = omega arith in
+        ap (λ (r : List ℕ). buildOf (tagsFrom b rest (at + 2)) size up (closed + 1) r) q
         ∙ ap (λ (x : ℕ). buildOf (tagsFrom b rest (at + 2)) size x (closed + 1) (closeRoom room top (closed + 1) (size + 1))) u
-        ∙ ap (λ (l : List Tag). buildOf l size top closed room) (sym (tags-close b rest at h)) ∙ less rest e;
+        ∙ ap (λ (l : List Tag). buildOf l size top closed room) (sym (tags-close b rest at h)) ∙ g .same (suc rest)
+        ∙ ap (λ (k : ℕ). buildOf (tagsFrom b k p) 0 0 0 room₀) e;
     long = ap length q ∙ close-long room top (closed + 1) (size + 1) ∙ g .long;
   }

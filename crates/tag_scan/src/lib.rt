@@ -1,18 +1,11 @@
-// Layer 3, tag_scan: tag lists judged, tag by tag, before anything is built of them.
+// Layer 3, tag_scan: the tags of a list judged, one by one.
 ghost use mathlib.Core.Path.{_≡_};
 ghost use mathlib.Core.Bool.{true, false};
 ghost use Prim.Native.Nat.{_+_, _≤_};
 ghost use lib.ListN.{length};
 ghost use lib.Dec.{leb};
-ghost use Rattle.bytes_read.specs.Scans.{firstFault, haltNumber};
-ghost use Rattle.tag_scan.specs.TagLists.{namelessAt, opening, closedWith, tagFault, treeEnd, treeScan};
-
-// What a pass over the tags came to: the refusal's number, or 0, the place where it stands, and the elements read.
-pub struct Judged {
-    pub fault: u16,
-    pub at: usize,
-    pub count: u16,
-}
+ghost use Rattle.bytes_read.specs.Scans.{firstFault};
+ghost use Rattle.tag_scan.specs.TagLists.{namelessAt, opening, closedWith, tagFault, treeEnd};
 
 // Whether the element that opens at a place has name 0 where that is refused.
 fn is_nameless(bytes: &[u8], any_name: bool, at: usize) -> bool
@@ -76,7 +69,7 @@ fn open_fault(bytes: &[u8], any_name: bool, most: u16, at: usize, depth: u16, co
 }
 
 // The refusal of the tag at a place, or 0.
-fn tag_fault(bytes: &[u8], any_name: bool, most: u16, at: usize, depth: u16, count: u16) -> u16
+pub fn tag_fault(bytes: &[u8], any_name: bool, most: u16, at: usize, depth: u16, count: u16) -> u16
     ensures { λ r. ⌜ r ≡ tagFault «any_name» most (now (bytes .entry)) (record { at = at; depth = depth; count = count }) ⌝ }
 {
     if bytes.len() <= at {
@@ -101,7 +94,7 @@ fn tag_fault(bytes: &[u8], any_name: bool, most: u16, at: usize, depth: u16, cou
 }
 
 // Whether a tree is read: to the end of the bytes where the whole of them is asked for.
-fn is_tree_end(bytes: &[u8], whole: bool, at: usize, depth: u16, count: u16) -> bool
+pub fn is_tree_end(bytes: &[u8], whole: bool, at: usize, depth: u16, count: u16) -> bool
     ensures { λ r. ⌜ «r» ≡ treeEnd «whole» (now (bytes .entry)) (record { at = at; depth = depth; count = count }) ⌝ }
 {
     if is_root_closed(depth, count) {
@@ -114,34 +107,4 @@ fn is_tree_end(bytes: &[u8], whole: bool, at: usize, depth: u16, count: u16) -> 
         return true;
     }
     false
-}
-
-// Judges the tags from a place on, to the end of the bytes or to the close of the root.
-pub fn scan_tags(bytes: &[u8], whole: bool, any_name: bool, most: u16, from: usize) -> Judged
-    ensures { λ r. ⌜ (r .at ≡ treeScan «whole» «any_name» most (now (bytes .entry)) from .state .at) × (r .count ≡ treeScan «whole» «any_name» most (now (bytes .entry)) from .state .count) × (r .fault ≡ haltNumber (treeScan «whole» «any_name» most (now (bytes .entry)) from .halt)) × (r .count ≤ most) ⌝ }
-{
-    let mut at = from;
-    let mut depth: u16 = 0;
-    let mut count: u16 = 0;
-    loop {
-        if is_tree_end(bytes, whole, at, depth, count) {
-            return Judged {
-                fault: 0,
-                at,
-                count,
-            };
-        }
-        let fault = tag_fault(bytes, any_name, most, at, depth, count);
-        if fault != 0 {
-            return Judged { fault, at, count };
-        }
-        if bytes_read::is_marked(bytes, at, 79, 80) {
-            at += 4;
-            depth += 1;
-            count += 1;
-        } else {
-            at += 2;
-            depth -= 1;
-        }
-    }
 }

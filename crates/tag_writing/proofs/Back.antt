@@ -19,7 +19,7 @@ use Rattle.checking.specs.declared.Verdict.{Verdict}
 use Rattle.checking.specs.declared.Written.{Written}
 use Rattle.checking.proofs.Runs.{most-small}
 use Rattle.checked.specs.Wholly.{accepted-tree}
-use Rattle.checking.specs.Room.{Left, leftBy, Leaves, RoomPromise}
+use Rattle.checking.specs.Room.{Left, leftBy, Leaves}
 use Rattle.tag_writing.specs.TagsBack.{backBytes, backLeft, BackPromise}
 
 pub signature-long : (s : List ℕ) (t : Tree) → s ≡ signature t → length s ≡ 4 * size (whole t)
@@ -46,7 +46,7 @@ module _ (k : Kind) (s : List ℕ) (v : Verdict) (p : WholePromise k s v) where
   unfolding backLeft
   refused-left room h = simp (ne-eqb _ _ h)
 
-  pub back-written : (room : List ℕ) (w : Written) (after : List ℕ) → v ≡ Verdict.Accepted → RoomPromise 0 0 (backBytes s) room w after
+  pub back-written : (room : List ℕ) (w : Written) (after : List ℕ) → v ≡ Verdict.Accepted → Leaves (leftBy 0 0 (backBytes s) room) w after
       → BackPromise k s room w after
   back-written room w after q h =
       left-as _ _ w after (accepted-left room (reason-is 1 (ap (λ (x : Verdict). verdictTold x .reason) q))) h

@@ -4,10 +4,9 @@
 --   backBytes s           the bytes of its tag list
 --   BackPromise           the promise of the call: the whole check, then room
 --   endsAt s next top     the innermost open element ends before the next entry
-use Prim.Native.Nat.{ℕ, zero, suc, _+_, _/_}
+use Prim.Native.Nat.{ℕ, zero, suc, _+_}
 use mathlib.Core.Bool.{Bool, _&&_}
 use mathlib.Core.List.{List}
-use lib.ListN.{length}
 use lib.Dec.{ltb, eqb}
 use Rattle.turns.specs.Pick.{pick}
 use Rattle.trees.specs.Tree.{Forest, none, elem, Tree}

@@ -7,7 +7,7 @@ ghost use lib.Seq.{sets};
 ghost use Rattle.trees.specs.Tree.{Tree, size, whole};
 ghost use Rattle.trees.specs.Signature.{signature};
 ghost use Rattle.bytes_read.specs.Bytes.{low, high};
-ghost use Rattle.checking.specs.Room.{frontWith, RoomPromise};
+ghost use Rattle.checking.specs.Room.{frontWith, leftBy, Leaves};
 ghost use Rattle.tag_writing.specs.TagsBack.{backBytes, endsAt, BackPromise};
 use checking::Kind;
 use checking::PreRank;
@@ -78,7 +78,7 @@ fn write_tags(sig: &[u16], count: u16, room: &mut [u8])
 // Writes the tag list of a tree's signature, if the room is long enough.
 fn write_back(sig: &[u16], room: &mut [u8]) -> Written
     requires { ⌜ ((t : Tree) × (now sig ≡ signature t) × (size (whole t) ≤ 4096)) ⌝ }
-    ensures { λ r. ⌜ RoomPromise 0 0 (backBytes (now (sig .entry))) (now (room .entry)) r (now (room .exit)) ⌝ }
+    ensures { λ r. ⌜ Leaves (leftBy 0 0 (backBytes (now (sig .entry))) (now (room .entry))) r (now (room .exit)) ⌝ }
 {
     let size = sig.len() / 4;
     if room.len() / 6 < size {

@@ -28,7 +28,7 @@ fn read(how: u16, bytes: &[u8], room: &mut [u16]) {
 }
 
 // The same, with what the room holds.
-pub fn read_into(how: u16, bytes: &[u8], room: &mut [u16]) {
+fn read_into(how: u16, bytes: &[u8], room: &mut [u16]) {
     read(how, bytes, &mut *room);
     words(&*room);
 }
@@ -36,40 +36,28 @@ pub fn read_into(how: u16, bytes: &[u8], room: &mut [u16]) {
 // A writing into a room: 1 of signature records, 2 of a data tree's tag list, 3 of a twig's.
 fn write(how: u16, sig: &[u16], room: &mut [u8]) {
     if how == 1 {
-        told(records::write_records(sig, room));
+        told(record_writing::write_records(sig, room));
         return;
     }
     told(tag_writing::signature_to_tags(kind_of(how), sig, room));
 }
 
-pub fn write_into(how: u16, sig: &[u16], room: &mut [u8]) {
+fn write_into(how: u16, sig: &[u16], room: &mut [u8]) {
     write(how, sig, &mut *room);
     octets(&*room);
 }
 
-// A room of four, of eight or of no numbers.
-fn in_four(how: u16, bytes: &[u8]) {
-    let mut room = [9u16; 4];
-    read_into(how, bytes, &mut room);
-}
-
-fn in_eight(how: u16, bytes: &[u8]) {
-    let mut room = [9u16; 8];
-    read_into(how, bytes, &mut room);
-}
-
-fn in_none(how: u16, bytes: &[u8]) {
-    let mut room = [0u16; 0];
-    read_into(how, bytes, &mut room);
+// A reading in a room of so many numbers, ten at most.
+pub fn read_in(how: u16, bytes: &[u8], len: usize) {
+    let mut room = [9u16; 10];
+    if len <= 10 {
+        read_into(how, bytes, &mut room[0..len]);
+    }
 }
 
 // A reading of the way given in the room that it is tried with.
 pub fn read_case(how: u16, bytes: &[u8]) {
-    if how == 1 {
-        in_four(how, bytes);
-    } else {
-        in_eight(how, bytes);
-    }
+    read_in(how, bytes, if how == 1 { 4 } else { 8 });
 }
 
 // A line has the way of reading, the label up to `|` and the bytes. With 5 it is read in the ways 2 to 4, and over 5 with no room.
@@ -84,7 +72,7 @@ fn read_line(line: &[u8]) {
     }
     text(label);
     if 5 < how {
-        in_none(how - 5, bytes);
+        read_in(how - 5, bytes, 0);
         return;
     }
     read_case(how, bytes);
@@ -139,42 +127,22 @@ fn eight_numbers(line: &[u8]) -> [u16; 8] {
     sig
 }
 
-fn in_twelve(how: u16, sig: &[u16]) {
-    let mut room = [9u8; 12];
-    write_into(how, sig, &mut room);
-}
-
-fn in_fourteen(how: u16, sig: &[u16]) {
+// A writing in a room of so many bytes, fourteen at most.
+pub fn write_in(how: u16, sig: &[u16], len: usize) {
     let mut room = [9u8; 14];
-    write_into(how, sig, &mut room);
-}
-
-fn in_no_bytes(how: u16, sig: &[u16]) {
-    let mut room = [0u8; 0];
-    write_into(how, sig, &mut room);
-}
-
-// A writing in a room of so many bytes.
-fn write_case(how: u16, room: u16, sig: &[u16]) {
-    if room == 0 {
-        in_no_bytes(how, sig);
-        return;
+    if len <= 14 {
+        write_into(how, sig, &mut room[0..len]);
     }
-    if room == 12 {
-        in_twelve(how, sig);
-        return;
-    }
-    in_fourteen(how, sig);
 }
 
 // A line has the way of writing, the room, the length and the numbers of the signature, and the label.
 fn write_line(line: &[u8]) {
     let sig = eight_numbers(line);
     text(after(line, 10));
-    write_case(
+    write_in(
         digit(line, 0),
-        digit(line, 1),
         front_numbers(&sig, digit(line, 2) as usize),
+        digit(line, 1) as usize,
     );
 }
 

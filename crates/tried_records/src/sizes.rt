@@ -78,9 +78,9 @@ pub fn entry_sizes() {
     let sig = [1u16; 16388];
     let mut room = [9u8; 40970];
     text(b"4,097 entries to records:");
-    told(records::write_records(&sig, &mut room));
+    told(record_writing::write_records(&sig, &mut room));
     text(b"\n4,096 entries to records:");
-    told(records::write_records(&sig[0..16384], &mut room));
+    told(record_writing::write_records(&sig[0..16384], &mut room));
     text(b"\n");
 }
 

@@ -22,29 +22,29 @@ loop-holds c = (storing-start _ _ _ (ap (numbersFrom _ 0) (sub-zero _)), omega a
 mul-at : tie.Need-mul-at Inv-loop μ-loop
 mul-at c = search needs
 
-add-number-at : tie.Need-add-number-at Inv-loop μ-loop
-add-number-at c = search needs
+add-number-in : tie.Need-add-number-in Inv-loop μ-loop
+add-number-in c = search needs
 
-number-at-requires : tie.Need-number-at-requires Inv-loop μ-loop
-number-at-requires c κs = search needs
+number-in-requires : tie.Need-number-in-requires Inv-loop μ-loop
+number-in-requires c κs = omega arith
 
-add-number-at-2 : tie.Need-add-number-at-2 Inv-loop μ-loop
-add-number-at-2 c = search needs
+add-number-in-2 : tie.Need-add-number-in-2 Inv-loop μ-loop
+add-number-in-2 c = search needs
 
-number-at-requires-2 : tie.Need-number-at-requires-2 Inv-loop μ-loop
-number-at-requires-2 c κs = search needs
+number-in-requires-2 : tie.Need-number-in-requires-2 Inv-loop μ-loop
+number-in-requires-2 c κs = omega arith
 
-add-number-at-3 : tie.Need-add-number-at-3 Inv-loop μ-loop
-add-number-at-3 c = search needs
+add-number-in-3 : tie.Need-add-number-in-3 Inv-loop μ-loop
+add-number-in-3 c = search needs
 
-number-at-requires-3 : tie.Need-number-at-requires-3 Inv-loop μ-loop
-number-at-requires-3 c κs = search needs
+number-in-requires-3 : tie.Need-number-in-requires-3 Inv-loop μ-loop
+number-in-requires-3 c κs = omega arith
 
-add-number-at-4 : tie.Need-add-number-at-4 Inv-loop μ-loop
-add-number-at-4 c = search needs
+add-number-in-4 : tie.Need-add-number-in-4 Inv-loop μ-loop
+add-number-in-4 c = search needs
 
-number-at-requires-4 : tie.Need-number-at-requires-4 Inv-loop μ-loop
-number-at-requires-4 c κs = search needs
+number-in-requires-4 : tie.Need-number-in-requires-4 Inv-loop μ-loop
+number-in-requires-4 c κs = omega arith
 
 mul-put-entry : tie.Need-mul-put-entry Inv-loop μ-loop
 mul-put-entry c = search needs
@@ -62,7 +62,7 @@ loop-again : tie.Need-loop-again Inv-loop μ-loop
 loop-again c =
     let l = c .before .before .before .before .before .before .before .before .before .loop in (
       numbers-stored _ _ _ _ _ _ _ _ _ _ (l .inv .0) (omega arith) (c .before .before .put-entry .ensures)
-          (c .before .before .before .before .before .before .before .number-at .ensures) (c .before .before .before .before .before .before .number-at2 .ensures) (c .before .before .before .before .before .number-at3 .ensures) (c .before .before .before .before .number-at4 .ensures),
+          (c .before .before .before .before .before .before .before .number-in .ensures) (c .before .before .before .before .before .before .number-in2 .ensures) (c .before .before .before .before .before .number-in3 .ensures) (c .before .before .before .before .number-in4 .ensures),
       omega arith,
     )
 
@@ -80,14 +80,14 @@ fill-numbers-spec =
     μ-loop
     loop-holds
     mul-at
-    add-number-at
-    number-at-requires
-    add-number-at-2
-    number-at-requires-2
-    add-number-at-3
-    number-at-requires-3
-    add-number-at-4
-    number-at-requires-4
+    add-number-in
+    number-in-requires
+    add-number-in-2
+    number-in-requires-2
+    add-number-in-3
+    number-in-requires-3
+    add-number-in-4
+    number-in-requires-4
     mul-put-entry
     put-entry-requires
     add-i

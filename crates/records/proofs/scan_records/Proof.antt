@@ -27,7 +27,7 @@ returns : tie.Need-returns Inv-loop μ-loop
 returns c =
     let l = c .before .before .loop in
     let came = going-end _ _ _ _ _ _ (l .inv .0) (sym (c .before .is-records-end .ensures) ∙ c .if1 .taken) in
-    (came .state, came .number-is, omega arith)
+    (came .state, came .number-is, omega arith, l .inv .1)
 
 record-fault-requires : tie.Need-record-fault-requires Inv-loop μ-loop
 record-fault-requires c κs = search needs
@@ -36,7 +36,7 @@ returns-2 : tie.Need-returns-2 Inv-loop μ-loop
 returns-2 c =
     let l = c .before .before .before .before .loop in
     let came = going-fault _ _ _ _ _ _ _ (l .inv .0) (sym (c .before .before .before .is-records-end .ensures) ∙ c .before .before .if1 .left) (c .before .record-fault .ensures) (c .if2 .taken) in
-    (came .state, came .number-is, omega arith)
+    (came .state, came .number-is, omega arith, l .inv .1)
 
 add-count : tie.Need-add-count Inv-loop μ-loop
 add-count c = search needs

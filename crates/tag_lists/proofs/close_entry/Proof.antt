@@ -1,9 +1,8 @@
--- Two stores, or none where the room has not the place.
-use mathlib.Core.Path.{sym, _∙_}
+-- Two stores, or none where there is no such entry.
 use lib.ListN.{length-set}
 use native.Mathlib.Omega.{arith}
 use borrow.Author.Needs.{needs}
-use Rattle.tag_lists.proofs.Build.{close-in, close-none, close-out, close-stores}
+use Rattle.tag_lists.proofs.Build.{entry-there, close-lacking, close-stores}
 use Rattle.tag_lists.proofs.close_entry.Statement.{statement}
 use Rattle.tag_lists.proofs.close_entry.Tie as tie
 
@@ -11,36 +10,49 @@ mul-end : tie.Need-mul-end
 mul-end c = search needs
 
 returns : tie.Need-returns
-returns c = sym (close-none _ _ _ _ (omega arith))
+returns c = let a = c .before .args in close-lacking (a .own .now) (a .top) (a .post) (a .ff) (c .if1 .taken)
 
-returns-2 : tie.Need-returns-2
-returns-2 c = sym (close-out _ _ _ _ (omega arith))
+sub-up : tie.Need-sub-up
+sub-up c = let a = c .before .args in omega (arith, entry-there (a .own .now) (a .top) (c .if1 .left) .0)
 
-sub-room : tie.Need-sub-room
-sub-room c = search needs
+mul-up : tie.Need-mul-up
+mul-up c = search needs
 
-mul-room : tie.Need-mul-room
-mul-room c = search needs
+slice-read-up : tie.Need-slice-read-up
+slice-read-up c =
+    let a = c .before .before .args in
+    let h = entry-there (a .own .now) (a .top) (c .before .if1 .left) in
+    omega (arith, h .0, h .1)
 
-slice-write-room : tie.Need-slice-write-room
-slice-write-room c = search needs
+sub-own : tie.Need-sub-own
+sub-own c = let a = c .before .before .args in omega (arith, entry-there (a .own .now) (a .top) (c .before .if1 .left) .0)
 
-sub-room-2 : tie.Need-sub-room-2
-sub-room-2 c = search needs
+mul-own : tie.Need-mul-own
+mul-own c = search needs
 
-mul-room-2 : tie.Need-mul-room-2
-mul-room-2 c = search needs
+slice-write-own : tie.Need-slice-write-own
+slice-write-own c =
+    let a = c .before .before .args in
+    let h = entry-there (a .own .now) (a .top) (c .before .if1 .left) in
+    omega (arith, h .0, h .1)
 
-slice-write-room-2 : tie.Need-slice-write-room-2
-slice-write-room-2 c = simp length-set (omega arith)
+sub-own-2 : tie.Need-sub-own-2
+sub-own-2 c = let a = c .before .before .args in omega (arith, entry-there (a .own .now) (a .top) (c .before .if1 .left) .0)
+
+mul-own-2 : tie.Need-mul-own-2
+mul-own-2 c = search needs
+
+slice-write-own-2 : tie.Need-slice-write-own-2
+slice-write-own-2 c =
+    let a = c .before .before .args in
+    let h = entry-there (a .own .now) (a .top) (c .before .if1 .left) in
+    simp length-set (omega (arith, h .0, h .1))
 
 same-length : tie.Need-same-length
-same-length c = simp length-set
+same-length c = search needs
 
-returns-3 : tie.Need-returns-3
-returns-3 c =
-    let a = c .before .before .args in
-    close-stores (a .room .now) (a .top) (a .post) (a .ff) (omega arith) ∙ sym (close-in (a .room .now) (a .top) (a .post) (a .ff) (omega arith) (omega arith))
+returns-2 : tie.Need-returns-2
+returns-2 c = let a = c .before .before .args in close-stores (a .own .now) (a .top) (a .post) (a .ff) (c .before .if1 .left)
 
 pub close-entry-spec : {M : Type 1} → statement M
 close-entry-spec =
@@ -48,12 +60,14 @@ close-entry-spec =
     (tie.spec
     mul-end
     returns
-    returns-2
-    sub-room
-    mul-room
-    slice-write-room
-    sub-room-2
-    mul-room-2
-    slice-write-room-2
+    sub-up
+    mul-up
+    slice-read-up
+    sub-own
+    mul-own
+    slice-write-own
+    sub-own-2
+    mul-own-2
+    slice-write-own-2
     same-length
-    returns-3)
+    returns-2)

@@ -1,81 +1,69 @@
--- Four stores, or none where the room has not the place.
-use mathlib.Core.Path.{sym, _∙_}
+-- Four stores.
 use Prim.Native.Nat.{_*_}
 use lib.ListN.{length-set}
 use native.Mathlib.Omega.{arith}
 use borrow.Author.Needs.{needs}
 use Rattle.bytes_read.proofs.Rooms.{sets-four}
-use Rattle.tag_lists.proofs.Build.{open-in, open-out}
 use Rattle.tag_lists.proofs.open_entry.Statement.{statement}
 use Rattle.tag_lists.proofs.open_entry.Tie as tie
 
 mul-at : tie.Need-mul-at
 mul-at c = search needs
 
-add-if1 : tie.Need-add-if1
-add-if1 c = search needs
+mul-own : tie.Need-mul-own
+mul-own c = search needs
 
-returns : tie.Need-returns
-returns c = sym (open-out _ _ _ _ (omega arith))
+slice-write-own : tie.Need-slice-write-own
+slice-write-own c = search needs
 
-mul-room : tie.Need-mul-room
-mul-room c = search needs
+add-own : tie.Need-add-own
+add-own c = search needs
 
-slice-write-room : tie.Need-slice-write-room
-slice-write-room c = search needs
+mul-own-2 : tie.Need-mul-own-2
+mul-own-2 c = search needs
 
-add-room : tie.Need-add-room
-add-room c = search needs
+slice-write-own-2 : tie.Need-slice-write-own-2
+slice-write-own-2 c = simp length-set (omega arith)
 
-mul-room-2 : tie.Need-mul-room-2
-mul-room-2 c = search needs
+add-own-2 : tie.Need-add-own-2
+add-own-2 c = search needs
 
-slice-write-room-2 : tie.Need-slice-write-room-2
-slice-write-room-2 c = simp length-set (omega arith)
+mul-own-3 : tie.Need-mul-own-3
+mul-own-3 c = search needs
 
-add-room-2 : tie.Need-add-room-2
-add-room-2 c = search needs
+slice-write-own-3 : tie.Need-slice-write-own-3
+slice-write-own-3 c = simp length-set (omega arith)
 
-mul-room-3 : tie.Need-mul-room-3
-mul-room-3 c = search needs
+add-own-3 : tie.Need-add-own-3
+add-own-3 c = search needs
 
-slice-write-room-3 : tie.Need-slice-write-room-3
-slice-write-room-3 c = simp length-set (omega arith)
+mul-own-4 : tie.Need-mul-own-4
+mul-own-4 c = search needs
 
-add-room-3 : tie.Need-add-room-3
-add-room-3 c = search needs
-
-mul-room-4 : tie.Need-mul-room-4
-mul-room-4 c = search needs
-
-slice-write-room-4 : tie.Need-slice-write-room-4
-slice-write-room-4 c = simp length-set (omega arith)
+slice-write-own-4 : tie.Need-slice-write-own-4
+slice-write-own-4 c = simp length-set (omega arith)
 
 same-length : tie.Need-same-length
-same-length c = simp length-set
+same-length c = search needs
 
-returns-2 : tie.Need-returns-2
-returns-2 c =
-    let a = c .before .args in
-    sets-four (a .room .now) (4 * a .size) (a .name) 0 0 (a .top) ∙ sym (open-in (a .room .now) (a .size) (a .name) (a .top) (omega arith))
+returns : tie.Need-returns
+returns c = let a = c .args in sets-four (a .own .now) (4 * a .size) (a .name) 0 0 (a .top)
 
 pub open-entry-spec : {M : Type 1} → statement M
 open-entry-spec =
     tie.close
     (tie.spec
     mul-at
-    add-if1
-    returns
-    mul-room
-    slice-write-room
-    add-room
-    mul-room-2
-    slice-write-room-2
-    add-room-2
-    mul-room-3
-    slice-write-room-3
-    add-room-3
-    mul-room-4
-    slice-write-room-4
+    mul-own
+    slice-write-own
+    add-own
+    mul-own-2
+    slice-write-own-2
+    add-own-2
+    mul-own-3
+    slice-write-own-3
+    add-own-3
+    mul-own-4
+    slice-write-own-4
     same-length
-    returns-2)
+    returns)

@@ -1,9 +1,8 @@
--- The judging pass says which of the three cases it is: refused, no room, or written.
-use mathlib.Core.Path.{_≡_, sym, _∙_}
+-- The pass over the tags says which of the two cases it is: refused, or built, and then given where the room is long enough.
 use native.Mathlib.Omega.{arith}
 use borrow.Author.Needs.{needs}
 use Rattle.checking.proofs.Runs.{most-small}
-use Rattle.tag_lists.proofs.Reading.{reading-place, reading-tags, filled-refused, filled-short, filled-done}
+use Rattle.tag_lists.proofs.Reading.{filled-refused, filled-given}
 use Rattle.tag_lists.proofs.read_tags.Statement.{statement}
 use Rattle.tag_lists.proofs.read_tags.Tie as tie
 
@@ -13,39 +12,38 @@ any-name-requires c κs = search needs
 most-requires : tie.Need-most-requires
 most-requires c κs = search needs
 
-scan-tags-requires : tie.Need-scan-tags-requires
-scan-tags-requires c κs = search needs
-
-returns : tie.Need-returns
-returns c =
-    let s = c .before .before .scan-tags .ensures in
-    filled-refused _ (c .before .before .before .before .before .before .before .args .kind) _ _ _ _ _ (c .before .before .before .before .any-name .ensures) (c .before .before .before .most .ensures) _ _ _ (s .0) (s .1) (s .2) (omega arith)
-
-cast-if2 : tie.Need-cast-if2
-cast-if2 c = search needs
-
-mul-if2 : tie.Need-mul-if2
-mul-if2 c = search needs
-
-returns-2 : tie.Need-returns-2
-returns-2 c =
-    let s = c .before .before .before .scan-tags .ensures in
-    filled-short _ (c .before .before .before .before .before .before .before .before .args .kind) _ _ _ _ _ (c .before .before .before .before .before .any-name .ensures) (c .before .before .before .before .most .ensures) _ _ _ (s .0) (s .1) (s .2) (omega arith) (omega arith)
+slice-aggregate-build-tree : tie.Need-slice-aggregate-build-tree
+slice-aggregate-build-tree c = search needs
 
 build-tree-requires : tie.Need-build-tree-requires
 build-tree-requires c κs =
-    let s = c .before .before .before .before .scan-tags .ensures in
-    let e : c .before .before .before .before .scan-tags .result .fault ≡ 0 = omega arith in
-    let z = sym (s .2) ∙ e in
-    (reading-place _ _ _ _ _ _ (s .1) z, omega (arith, s .3, most-small (c .before .before .before .before .before .before .before .before .before .args .kind)), omega arith, reading-tags _ _ _ _ _ _ (s .1) z)
+    let s = most-small (c .before .before .before .before .before .args .kind) in
+    (omega (arith, c .before .most .ensures, s), omega (arith, c .before .most .ensures, s))
+
+returns : tie.Need-returns
+returns c =
+    filled-refused _ (c .before .before .before .before .before .before .before .before .before .args .kind) _ _ _ _ _ (c .before .before .before .before .before .before .any-name .ensures) (c .before .before .before .before .before .most .ensures) _ _ _ _ _ (c .before .before .before .build-tree .ensures) (omega arith)
+
+slice-aggregate-give-front : tie.Need-slice-aggregate-give-front
+slice-aggregate-give-front c = search needs
+
+cast-give-front : tie.Need-cast-give-front
+cast-give-front c = search needs
+
+mul-give-front : tie.Need-mul-give-front
+mul-give-front c = search needs
+
+give-front-requires : tie.Need-give-front-requires
+give-front-requires c κs =
+    omega (arith, c .before .before .before .before .before .build-tree .ensures .few, c .before .before .before .before .before .before .before .most .ensures, most-small (c .before .before .before .before .before .before .before .before .before .before .before .args .kind))
 
 same-length : tie.Need-same-length
 same-length c = search needs
 
-returns-3 : tie.Need-returns-3
-returns-3 c =
-    let s = c .before .before .before .before .before .before .before .scan-tags .ensures in
-    filled-done _ (c .before .before .before .before .before .before .before .before .before .before .before .before .args .kind) _ _ _ _ _ (c .before .before .before .before .before .before .before .before .before .any-name .ensures) (c .before .before .before .before .before .before .before .before .most .ensures) _ _ _ (s .0) (s .1) (s .2) _ (omega arith) (omega arith) (c .before .before .build-tree .ensures)
+returns-2 : tie.Need-returns-2
+returns-2 c =
+    let g = c .before .before .give-front .ensures in
+    filled-given _ (c .before .before .before .before .before .before .before .before .before .before .before .before .before .before .args .kind) _ _ _ _ _ (c .before .before .before .before .before .before .before .before .before .before .before .any-name .ensures) (c .before .before .before .before .before .before .before .before .before .before .most .ensures) _ _ _ _ _ (c .before .before .before .before .before .before .before .before .build-tree .ensures) (omega arith) _ _ (g .0) (g .1)
 
 pub read-tags-spec : {M : Type 1} → statement M
 read-tags-spec =
@@ -53,11 +51,12 @@ read-tags-spec =
     (tie.spec
     any-name-requires
     most-requires
-    scan-tags-requires
-    returns
-    cast-if2
-    mul-if2
-    returns-2
+    slice-aggregate-build-tree
     build-tree-requires
+    returns
+    slice-aggregate-give-front
+    cast-give-front
+    mul-give-front
+    give-front-requires
     same-length
-    returns-3)
+    returns-2)

@@ -1,9 +1,9 @@
 -- The length comes before the names.
 use mathlib.Core.Path.{sym, _∙_}
 use Rattle.records.proofs.Faults.{write-length, write-nameless, write-fine}
 use borrow.Author.Needs.{needs}
-use Rattle.records.proofs.write_fault.Statement.{statement}
-use Rattle.records.proofs.write_fault.Tie as tie
+use Rattle.record_writing.proofs.write_fault.Statement.{statement}
+use Rattle.record_writing.proofs.write_fault.Tie as tie
 
 length-fault-requires : tie.Need-length-fault-requires
 length-fault-requires c κs = search needs

@@ -2,13 +2,13 @@
 use mathlib.Core.Path.{ap}
 use Prim.Native.Nat.{_≤_, _-_, _*_}
 use native.Mathlib.Nat.{sub-zero}
 use Rattle.records.specs.Records.{bytesFrom}
 use Rattle.records.proofs.Filling.{bytes-stored, bytes-none, bytes-length}
 use Rattle.bytes_read.proofs.Rooms.{Storing, storing-start, storing-end}
 use native.Mathlib.Omega.{arith}
 use borrow.Author.Needs.{needs}
-use Rattle.records.proofs.fill_records.Statement.{statement}
-use Rattle.records.proofs.fill_records.Tie as tie
+use Rattle.record_writing.proofs.fill_records.Statement.{statement}
+use Rattle.record_writing.proofs.fill_records.Tie as tie
 
 abbrev Inv-loop : tie.InvT-loop
 Inv-loop sig size room₀ i₀ room i = Storing room₀ (bytesFrom sig 0 size) room (10 * i) (bytesFrom sig (4 * i) (size - i)) × (i ≤ size)

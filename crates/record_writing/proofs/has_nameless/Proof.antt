@@ -2,12 +2,12 @@
 use mathlib.Core.Path.{_≡_, ap, sym, _∙_}
 use Prim.Native.Nat.{_≤_, _-_, _*_}
 use native.Mathlib.Nat.{sub-zero}
 use Rattle.records.specs.Records.{namelessFrom}
 use Rattle.records.proofs.Filling.{nameless-here, nameless-later, nameless-none}
 use native.Mathlib.Omega.{arith}
 use borrow.Author.Needs.{needs}
-use Rattle.records.proofs.has_nameless.Statement.{statement}
-use Rattle.records.proofs.has_nameless.Tie as tie
+use Rattle.record_writing.proofs.has_nameless.Statement.{statement}
+use Rattle.record_writing.proofs.has_nameless.Tie as tie
 
 abbrev Inv-loop : tie.InvT-loop
 Inv-loop sig size i₀ i = (namelessFrom sig 0 size ≡ namelessFrom sig (4 * i) (size - i)) × (i ≤ size)

@@ -4,8 +4,8 @@ use Rattle.bytes_read.specs.Bytes.{low, high}
 use Rattle.bytes_read.proofs.Rooms.{sets-ten}
 use native.Mathlib.Omega.{arith}
 use borrow.Author.Needs.{needs}
-use Rattle.records.proofs.put_record.Statement.{statement}
-use Rattle.records.proofs.put_record.Tie as tie
+use Rattle.record_writing.proofs.put_record.Statement.{statement}
+use Rattle.record_writing.proofs.put_record.Tie as tie
 
 slice-write-room : tie.Need-slice-write-room
 slice-write-room c = search needs

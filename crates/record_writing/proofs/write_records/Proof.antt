@@ -2,12 +2,12 @@
 use mathlib.Core.Path.{refl}
 use Prim.Native.Nat.{_/_}
 use lib.ListN.{length}
 use Rattle.records.proofs.Filling.{bytes-length}
 use Rattle.bytes_read.proofs.Rooms.{refused-with, short-with, written-with}
 use native.Mathlib.Omega.{arith}
 use borrow.Author.Needs.{needs}
-use Rattle.records.proofs.write_records.Statement.{statement}
-use Rattle.records.proofs.write_records.Tie as tie
+use Rattle.record_writing.proofs.write_records.Statement.{statement}
+use Rattle.record_writing.proofs.write_records.Tie as tie
 
 write-fault-requires : tie.Need-write-fault-requires
 write-fault-requires c κs = search needs
