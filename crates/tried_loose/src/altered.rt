@@ -13,7 +13,7 @@ use crate::whole::walk;
 use checking::PreRank;
 use libc::STDOUT_FILENO;
 use preparing::Prep;
-use walking::Phase;
+use walk_ranges::Phase;
 use walking::Walk;
 
 // A twig of a line's eight numbers from the seventh on, followed by ones.

@@ -26,7 +26,7 @@ use whole::walk;
 fn start(n: u64, table: &mut [u16]) {
     io::write_all(STDOUT_FILENO, b"start");
     number(n);
-    let answer = preparing::prepare_start(n, &mut *table);
+    let answer = starting::prepare_start(n, &mut *table);
     started(answer);
     tabled(&*table);
 }

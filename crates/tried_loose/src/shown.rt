@@ -4,7 +4,7 @@ use checking::Stop;
 use libc::STDOUT_FILENO;
 use preparing::PrepTurn;
 use preparing::Started;
-use walking::Phase;
+use walk_ranges::Phase;
 use walking::Walk;
 use walking::WalkTurn;
 

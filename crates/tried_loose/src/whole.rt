@@ -15,7 +15,7 @@ use walking::WalkTurn;
 
 // Prepares the whole table in turns of budget steps.
 pub fn prepare(sig: &[u16], twig: &[u16], table: &mut [u16], n: u64, budget: u64) {
-    let start = preparing::prepare_start(n, &mut *table);
+    let start = starting::prepare_start(n, &mut *table);
     let Started::Fresh(fresh) = start else {
         io::write_all(STDOUT_FILENO, b"not started\n");
         return;

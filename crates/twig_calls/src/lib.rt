@@ -33,7 +33,7 @@ pub fn ordered_next(
 pub fn prepare_start(n: u64, table: &mut [u16], out: &mut [u64; 1]) -> u16
     ensures { λ r. ⌜ StartNumbers n (now (table .entry)) r (now (table .exit)) (now (out .exit)) ⌝ }
 {
-    let answer = preparing::prepare_start(n, table);
+    let answer = starting::prepare_start(n, table);
     tell_start(answer, out)
 }
 
