@@ -3,22 +3,20 @@
 --   Sound, chain-sound  where a chain reports the end, it has read a tree, in steps that add up to 2×n
 --   accepted-sound      so a tree yields the list
 --   Came, chain-complete  where a tree yields the list, turns with 2×n steps to spend in all report the end after 2×n; others spend all they have
-use Prim.Native.Nat.{ℕ, zero, suc, _+_, _-_, _*_, _/_, _%_, _≤_, _<_}
+use Prim.Native.Nat.{ℕ, _+_, _-_, _*_, _≤_, _<_}
 use mathlib.Core.Path.{_≡_, refl, ap, _∙_, sym, subst}
 use mathlib.Core.Logic.{_⊎_, inl, inr}
 use mathlib.Core.List.{List}
-use mathlib.Core.Bool.{Bool, true, false}
+use mathlib.Core.Bool.{true}
 use native.Mathlib.Omega.{arith}
 use native.Mathlib.Decide.{ℕ-discrete}
-use lib.ListN.{length, getD}
-use Rattle.turns.specs.Turn.{Halt, Turned, turn, Moves, Steps}
-use Rattle.turns.specs.Chains as Chains
+use lib.ListN.{length}
+use Rattle.turns.specs.Turn.{Halt}
 use Rattle.turns.specs.Chains.{chain-steps, chain-ends, chain-finished, Reached, Underway}
-use Rattle.trees.specs.Tree.{Forest, none, elem, size, Tree, whole, Grown}
+use Rattle.trees.specs.Tree.{size, Tree, whole}
 use Rattle.trees.specs.Signature.{Entries, cell, entriesOf, width, signature, entries}
 use Rattle.trees.specs.Rows.{Holds}
 use Rattle.trees.specs.Listed.{signature-length, listed-whole, whole-listed}
-use Rattle.trees.specs.Unique.{signature-unique}
 use Rattle.trees.specs.Facts.{Facts}
 use Rattle.trees.specs.FactsOf.{facts-of}
 use Rattle.checking.specs.declared.Kind.{Kind}
@@ -26,13 +24,13 @@ use Rattle.checking.specs.declared.CheckState.{CheckState}
 use Rattle.checking.specs.declared.CheckTurn.{CheckTurn}
 use Rattle.checking.specs.declared.Stop.{Stop}
 use Rattle.checking.specs.Kinds.{anyName, most}
-use Rattle.checking.specs.Rule.{at, fresh, stepOf, accepted, Ranges}
+use Rattle.checking.specs.Rule.{at, fresh, stepOf, accepted}
 use Rattle.checking.specs.Stops.{told, haltTold}
-use Rattle.checking.specs.Turn.{Handed, lengthFault}
+use Rattle.checking.specs.Turn.{lengthFault}
 use Rattle.checking.proofs.Cases.{accepted-yes, fresh-ranges}
 use Rattle.checking.proofs.Runs.{Sized, length-sized, length-fine}
 use Rattle.checked.specs.Walked.{Run, Fine, walk-tree}
-use Rattle.checked.specs.Parsed.{Read, accepted-read}
+use Rattle.checked.specs.Parsed.{accepted-read}
 use Rattle.checked.specs.Yields.{Words, Yields, Turns}
 use Rattle.checked.specs.Named.{root-fine, fine-named}
 use Rattle.checked.specs.Apart.{halt-told, told-halt, stopOf}

@@ -9,7 +9,6 @@ use Rattle.turns.specs.Turn.{Halt, Turned}
 use Rattle.checking.specs.declared.Stop.{Stop}
 use Rattle.checking.specs.declared.Verdict.{Verdict}
 use Rattle.checking.specs.declared.Refusal.{Refusal}
-use Rattle.checking.specs.declared.PreRank.{PreRank}
 use Rattle.checking.specs.declared.CheckState.{CheckState}
 use Rattle.checking.specs.declared.CheckTurn.{CheckTurn}
 use Rattle.checking.specs.declared.Written.{Written}

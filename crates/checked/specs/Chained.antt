@@ -4,31 +4,29 @@
 --   Ran, chain-ran   a chain of public turns
 --   chain-length     no chain reports the end where the length is refused
 --   run-moves        the check's steps are moves: none is an answer
-use Prim.Native.Nat.{ℕ, zero, suc, _+_, _-_, _*_, _/_, _≤_, _<_}
+use Prim.Native.Nat.{ℕ, _+_}
 use mathlib.Core.Path.{_≡_, refl, ap, _∙_, sym, subst}
 use mathlib.Core.List.{List}
 use mathlib.Core.Bool.{Bool, true, false}
 use native.Mathlib.Omega.{arith}
 use native.Mathlib.Decide.{ℕ-discrete}
 use lib.ListN.{length}
-use Rattle.turns.specs.Turn.{Halt, Turned, turn, moved, answered, Moves, stay, move, Step, on, found, Steps, none, then}
+use Rattle.turns.specs.Turn.{Halt, Turned, turn, Moves, stay, move, Step, on, found, Steps, none, then}
 use Rattle.turns.specs.Counts.{counted}
 use Rattle.turns.specs.Chains as Chains
-use Rattle.turns.specs.Chains.{Chain, one, more}
+use Rattle.turns.specs.Chains.{one, more}
 use Rattle.trees.specs.Signature.{entriesOf, width, entries}
 use Rattle.checking.specs.declared.Kind.{Kind}
 use Rattle.checking.specs.declared.CheckState.{CheckState}
 use Rattle.checking.specs.declared.CheckTurn.{CheckTurn}
-use Rattle.checking.specs.declared.Stop.{Stop}
 use Rattle.checking.specs.Kinds.{anyName, most}
 use Rattle.checking.specs.Rule.{stepOf, accepted, Ranges, inRange}
 use Rattle.checking.specs.Stops.{told, haltTold}
-use Rattle.checking.specs.Turn.{Handed, TurnPromise, runOf, turnOf, lengthFault, refusedAt}
+use Rattle.checking.specs.Turn.{Handed, TurnPromise, turnOf, lengthFault, refusedAt}
 use Rattle.checking.proofs.Cases.{range-yes, range-inverse}
 use Rattle.checking.proofs.Inverse.{step-ranges, step-silent}
 use Rattle.checking.proofs.Runs.{turn-run, turn-length, turn-range}
 use Rattle.checked.specs.Yields.{Turns}
-use Rattle.checked.specs.Apart.{told-halt, stopOf}
 
 module _ (k : Kind) (s : List ℕ) where
   abbrev step : CheckState → Rattle.turns.specs.Turn.Next CheckState

@@ -2,13 +2,13 @@
 --   named-fine       allowed names pass
 --   fine-named       names that pass are allowed, in a list of sixteen-bit numbers
 use Prim.Native.Nat.{ℕ, _+_, _≤_, _<_}
-use mathlib.Core.Path.{_≡_, refl, ap, _∙_, sym, subst}
+use mathlib.Core.Path.{_≡_, refl, _∙_, sym, subst}
 use mathlib.Core.Bool.{Bool, true, false, false≢true}
 use native.Mathlib.Omega.{arith}
-use Rattle.trees.specs.Tree.{Forest, none, elem, size, NotZero, Allowed, Named}
+use Rattle.trees.specs.Tree.{Forest, none, elem, size, NotZero, Named}
 use Rattle.trees.specs.Signature.{Entries}
-use Rattle.trees.specs.Rows.{Entry, Holds}
-use Rattle.checking.specs.Rule.{nameless, secondRoot}
+use Rattle.trees.specs.Rows.{Holds}
+use Rattle.checking.specs.Rule.{nameless}
 use Rattle.checking.proofs.Cases.{nameless-any, nameless-other, nameless-zero, root-below, root-first}
 use Rattle.checked.specs.Walked.{Fine}
 

@@ -2,14 +2,14 @@
 --   accepted-is      an accepted state, taken apart
 --   Read             the tree that an accepted run has read, and the run's 2×n steps
 --   accepted-read    an accepted run from the fresh state has read a tree
-use Prim.Native.Nat.{ℕ, zero, suc, _+_, _-_, _*_, _≤_, _<_}
+use Prim.Native.Nat.{ℕ, zero, suc, _+_, _*_, _≤_}
 use mathlib.Core.Path.{_≡_, refl, ap, _∙_, sym, subst}
 use mathlib.Core.Logic.{_⊎_, inl, inr}
 use mathlib.Core.Bool.{Bool, true, false, _&&_, false≢true}
 use native.Mathlib.Omega.{arith}
 use lib.Dec.{eqb}
 use borrow.Author.Tests.{eqb-true}
-use Rattle.turns.specs.Turn.{moved, Moves, stay, move}
+use Rattle.turns.specs.Turn.{stay, move}
 use Rattle.trees.specs.Tree.{Forest, none, elem, size}
 use Rattle.trees.specs.Signature.{Entries}
 use Rattle.trees.specs.Rows.{Entry, Holds}

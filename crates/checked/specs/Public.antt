@@ -7,7 +7,7 @@
 --   count-unique           no two counts join the same two states
 --   refused-early          a check refused at a step has taken fewer than 2×n steps
 --   chain-verdict          and is refused with the same number and entry by the whole check
-use Prim.Native.Nat.{ℕ, zero, suc, _+_, _-_, _*_, _≤_, _<_}
+use Prim.Native.Nat.{ℕ, zero, suc, _+_, _*_, _≤_, _<_}
 use mathlib.Core.Path.{_≡_, refl, ap, _∙_, sym, subst}
 use mathlib.Core.Logic.{_⊎_, inl, inr}
 use mathlib.Core.List.{List}
@@ -15,11 +15,11 @@ use mathlib.Core.Bool.{Bool, true, false, false≢true}
 use lib.ListN.{length}
 use Rattle.trees.specs.Order.{lt-or-ge}
 use native.Mathlib.Omega.{arith}
-use Rattle.turns.specs.Turn.{Halt, Turned, turn, Next, moved, refused, Moves, stay, move, Step, on, found, Steps, none, faulty}
+use Rattle.turns.specs.Turn.{Halt, Turned, turn, Next, refused, Moves, stay, move, Step, on, found, Steps, none, faulty}
 use Rattle.turns.specs.Counts as Counts
 use Rattle.turns.specs.Laws as Laws
 use Rattle.turns.specs.Chains as Chains
-use Rattle.trees.specs.Signature.{Entries, entriesOf, width, entries}
+use Rattle.trees.specs.Signature.{entriesOf, width, entries}
 use Rattle.checking.specs.declared.Kind.{Kind}
 use Rattle.checking.specs.declared.CheckState.{CheckState}
 use Rattle.checking.specs.declared.CheckTurn.{CheckTurn}
@@ -36,7 +36,7 @@ use Rattle.checking.proofs.Runs.{moves-grow, moves-ranges, length-sized}
 use Rattle.checking.proofs.Cases.{accepted-yes, fresh-ranges}
 use Rattle.checked.specs.Yields.{Turns}
 use Rattle.checked.specs.Apart.{handed-unique, verdict-apart, halt-told, told-halt}
-use Rattle.checked.specs.Chained.{Fits, Judged, refuses, runs, judged, turn-is, promise-is, steps-kept, Ran, chain-ran, run-moves}
+use Rattle.checked.specs.Chained.{Fits, Judged, refuses, runs, judged, turn-is, promise-is, steps-kept, chain-ran, run-moves}
 
 -- ---- one result
 

@@ -5,19 +5,18 @@
 --   ours-two, ours-turns, ours-three   whatever keeps our promises meets them
 --   shut-out-…               refusing everything, accepting everything, a turn that does nothing, all the work in the first turn,
 --                            an invented step count
-use Prim.Native.Nat.{ℕ, zero, suc, _+_, _*_, _≤_, _<_}
+use Prim.Native.Nat.{ℕ, zero, suc}
 use mathlib.Core.Path.{_≡_, refl, ap, _∙_, sym, subst}
 use mathlib.Core.Logic.{_⊎_, inl, inr}
 use mathlib.Core.Bool.{Bool, true, false, _&&_, false≢true}
 use mathlib.Core.List.{List, [], _∷_}
 use native.Mathlib.Omega.{arith}
 use lib.Dec.{ltb}
-use lib.ListN.{length, getD}
 use borrow.Author.Tests.{ltb-true}
 use Rattle.turns.specs.Turn.{Halt, Turned, run, turn}
-use Rattle.turns.specs.Demand.{Faithful, ours-faithful, faithful-turn, shut-out-state, shut-out-count}
+use Rattle.turns.specs.Demand.{Faithful, ours-faithful, shut-out-state, shut-out-count}
 use Rattle.turns.specs.Chains.{Chain, one, more}
-use Rattle.trees.specs.Tree.{none, Tree}
+use Rattle.trees.specs.Tree.{none}
 use Rattle.trees.specs.Signature.{cell, entriesOf, width, entries}
 use Rattle.checking.specs.declared.Kind.{Kind}
 use Rattle.checking.specs.declared.CheckState.{CheckState}

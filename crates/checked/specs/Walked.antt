@@ -2,10 +2,10 @@
 --   Run, one, then      steps of the check, one after the other
 --   Fine any e f i up   each entry of the row passes rule 1
 --   walk-tree           from the fresh state to the end in exactly 2×n steps
-use Prim.Native.Nat.{ℕ, zero, suc, _+_, _-_, _*_, _≤_, _<_}
-use mathlib.Core.Path.{_≡_, refl, ap, _∙_, sym, subst}
+use Prim.Native.Nat.{ℕ, suc, _+_, _*_, _≤_, _<_}
+use mathlib.Core.Path.{_≡_, refl, ap, _∙_, subst}
 use mathlib.Core.Logic.{_⊎_, inl, inr}
-use mathlib.Core.Bool.{Bool, true, false}
+use mathlib.Core.Bool.{Bool, false}
 use native.Mathlib.Omega.{arith}
 use Rattle.turns.specs.Turn.{moved, Moves, stay, move}
 use Rattle.turns.specs.Counts.{moves-append}

@@ -3,27 +3,31 @@
 --   check-two-n         and by then the returned steps add up to 2×n
 --   yields-accepted     the whole check accepts what a tree yields
 --   whole-exactly       the whole check accepts exactly if a tree yields the list
+--   accepted-reason, refused-reason   the reason that the whole check's numbers give is 1 where it accepts, and another where it refuses
 --   accepted-tree       an accepted signature has a tree, with its facts: the one interface for later layers
 --   tree-unique         the tree is unique
-use Prim.Native.Nat.{ℕ, zero, suc, _+_, _*_, _≤_, _<_}
+use Prim.Native.Nat.{ℕ, _+_, _*_, _≤_}
 use mathlib.Core.Path.{_≡_, refl, ap, _∙_, sym, subst}
 use mathlib.Core.Logic.{_⊎_, inl, inr}
+use mathlib.Core.Bool.{true, false}
 use mathlib.Core.List.{List}
 use native.Mathlib.Omega.{arith}
+use lib.Dec.{eqb}
 use Rattle.turns.specs.Turn.{Halt, Turned}
 use Rattle.turns.specs.Chains.{one}
-use Rattle.trees.specs.Tree.{Tree, size, whole}
-use Rattle.trees.specs.Signature.{signature, entriesOf, width, entries}
+use Rattle.trees.specs.Tree.{Tree, whole}
+use Rattle.trees.specs.Signature.{entriesOf, width, entries}
 use Rattle.trees.specs.Unique.{signature-unique}
 use Rattle.checking.specs.declared.Kind.{Kind}
 use Rattle.checking.specs.declared.CheckState.{CheckState}
 use Rattle.checking.specs.declared.CheckTurn.{CheckTurn}
 use Rattle.checking.specs.declared.Stop.{Stop}
 use Rattle.checking.specs.declared.Verdict.{Verdict}
+use Rattle.checking.specs.declared.Refusal.{Refusal}
 use Rattle.checking.specs.Kinds.{anyName, most}
 use Rattle.checking.specs.Rule.{fresh}
-use Rattle.checking.specs.Stops.{Told, told, haltTold, verdictTold}
-use Rattle.checking.specs.Turn.{Handed, TurnPromise, turnOf}
+use Rattle.checking.specs.Stops.{Told, told}
+use Rattle.checking.specs.Turn.{Handed, turnOf}
 use Rattle.checking.specs.Whole.{wholeOf, WholePromise}
 use Rattle.checked.specs.Yields.{Words, Yields, Exactly, Ended, Turns}
 use Rattle.checked.specs.Apart.{stopOf, halt-told, verdict-apart, told-stop}
@@ -97,6 +101,13 @@ module _ (k : Kind) (s : List ℕ) where
     sound = λ h. accepted-sound k s w whole-turn (whole-end (subst (WholePromise k s) h p)) .0;
     complete = λ y. verdict-apart v Verdict.Accepted (p ∙ sym (yields-accepted y));
   }
+
+  -- a verdict by its reason, which is what the calls that check first ask for
+  pub accepted-reason : WholePromise k s Verdict.Accepted → eqb (wholeOf k s .reason) 1 ≡ true
+  accepted-reason p = ap (λ (t : Told). eqb (t .reason) 1) (sym p)
+
+  pub refused-reason : (x : Refusal) → WholePromise k s (Verdict.Refused x) → eqb (wholeOf k s .reason) 1 ≡ false
+  refused-reason x p = ap (λ (t : Told). eqb (t .reason) 1) (sym p)
 
 -- the tree is unique
 pub tree-unique : (k : Kind) (s : List ℕ) (a b : Yields k s) → a .tree ≡ b .tree

@@ -4,13 +4,13 @@
 --   Exactly k s P    P exactly if a tree of kind k yields s
 --   Ended k s B P    the same of turns that may spend B steps in all: P says that a tree yields s, and 2×n steps are enough for P
 --   Turns k s st B K r   public turns of the check of s from st: budgets B and steps K in all, the last one answered r
-use Prim.Native.Nat.{ℕ, _/_, _*_, _<_, _≤_}
+use Prim.Native.Nat.{ℕ, _*_, _<_, _≤_}
 use mathlib.Core.Path.{_≡_}
 use mathlib.Core.List.{List}
-use lib.ListN.{length, getD}
+use lib.ListN.{getD}
 use Rattle.turns.specs.Chains.{Chain}
 use Rattle.trees.specs.Tree.{Tree, Grown}
-use Rattle.trees.specs.Signature.{signature, width, entries}
+use Rattle.trees.specs.Signature.{signature, entries}
 use Rattle.checking.specs.declared.Kind.{Kind}
 use Rattle.checking.specs.declared.CheckState.{CheckState}
 use Rattle.checking.specs.declared.CheckTurn.{CheckTurn}

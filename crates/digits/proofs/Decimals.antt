@@ -3,12 +3,15 @@
 --   decimal-ten     a number of 10 or more is its tenth part's digits and then its last one
 --   decimal-value   the digits of n tell n
 --   decimal-apart   two numbers with the same digits are equal
+--   decimal-front   the first digit of a number that is not 0 is no zero, and 0 is one digit
 --   prints-one, prints-ten   the same two cases, printed
 use Prim.Native.Nat.{ℕ, zero, suc, _+_, _-_, _*_, _/_, _%_, _≤_, _<_}
 use mathlib.Core.Path.{_≡_, refl, ap, _∙_, sym}
+use mathlib.Core.Logic.{_⊎_, inl, inr}
 use mathlib.Core.List.{List, [], _∷_, _++_}
 use native.Mathlib.Omega.{arith}
 use native.Mathlib.Decide.{decLt}
+use lib.ListN.{getD}
 use borrow.Author.Tests.{lt-ltb, le-ltb}
 use Rattle.digits.specs.Page.{page, printed, Prints}
 use Rattle.digits.specs.Decimal.{digitsIn, decimal, valueAfter, value}
@@ -70,6 +73,25 @@ decimal-value n = digits-value (suc n) n (omega arith)
 
 pub decimal-apart : (a b : ℕ) → decimal a ≡ decimal b → a ≡ b
 decimal-apart a b h = sym (decimal-value a) ∙ ap value h ∙ decimal-value b
+
+-- ---- no zeros in front
+
+digits-front : (k n : ℕ) → n < k → 1 ≤ n → 48 < getD (digitsIn k n) 0 48
+digits-front zero n h l = absurd (omega arith)
+digits-front (suc k) n h l = by (decLt n 10) (λ a b. digits-front k (n / 10) a b)
+  where
+    first : (l : List ℕ) (d : ℕ) → 48 < getD l 0 48 → 48 < getD (l ++ d ∷ []) 0 48
+    first [] d p = absurd (omega arith)
+    first (x ∷ l) d p = p
+
+    by : Dec (n < 10) → (n / 10 < k → 1 ≤ n / 10 → 48 < getD (digitsIn k (n / 10)) 0 48) → 48 < getD (digitsIn (suc k) n) 0 48
+    by (yes s) ih = rw (digits-one k n s) (omega arith)
+    by (no s) ih = rw (digits-ten k n (omega arith)) (first (digitsIn k (n / 10)) (48 + n % 10) (ih (omega arith) (omega arith)))
+
+-- "without zeros in front": the byte 48 stands for the digit 0
+pub decimal-front : (n : ℕ) → ((n ≡ 0) × (decimal n ≡ 48 ∷ [])) ⊎ (48 < getD (decimal n) 0 48)
+decimal-front zero = inl (refl, decimal-one 0 (omega arith))
+decimal-front (suc n) = inr (digits-front (suc (suc n)) (suc n) (omega arith) (omega arith))
 
 -- ---- printed
 

@@ -69,7 +69,8 @@ pub fn put_two(room: &mut [u8], at: usize, word: &[u8], a: u64, b: u64) -> usize
     put_byte(room, next, 10)
 }
 
-fn wide(x: u16) -> u64
+// A number of sixteen bits as one of those that are printed.
+pub fn wide(x: u16) -> u64
     ensures { λ r. ⌜ r ≡ x ⌝ }
 {
     x as u64

@@ -1,18 +1,16 @@
 -- The list of all loose answers, and the walk over a right table lists it.
---   rank-image         the rank that an answer gives a node is the node's image
---   smaller-never, smaller-trans   the order of answers is strict
 --   loose-sound, loose-complete, loose-ascending, loose-once, loose-unique   looseAnswers has just the loose answers, ascending, each once
 --   Bits pass          pass says of each node and entry whether there is a match: what a right table's bits say
 --   bits-bounded       then no range fails below
 --   bits-same, bits-listed   and the walk's answers are the loose answers
-use Prim.Native.Nat.{ℕ, suc, _-_, _≤_, _<_}
+use Prim.Native.Nat.{ℕ, suc, _≤_, _<_}
 use mathlib.Core.Path.{_≡_, refl, ap, _∙_, sym, subst}
 use mathlib.Core.Logic.{_↔_}
 use mathlib.Core.Bool.{Bool, true}
-use mathlib.Core.List.{List, [], _∷_, _++_, map, reverse, reverse-reverse, append-nil, List·Memᴰ, Memᴰ·map, Memᴰ·of-map}
+use mathlib.Core.List.{List, [], _∷_, map, reverse, reverse-reverse, List·Memᴰ, Memᴰ·map, Memᴰ·of-map}
 use native.Mathlib.Omega.{arith}
 use native.Mathlib.Decide.{ℕ-discrete}
-use lib.ListN.{length, getD, replicate, length-reverse}
+use lib.ListN.{length, length-reverse}
 use Rattle.trees.specs.Signature.{Entries}
 use Rattle.trees.specs.Facts.{Facts}
 use Rattle.trees.specs.Names.{passes, Passes, passes-true, true-passes}
@@ -22,49 +20,27 @@ use Rattle.walks.specs.Answers.{Fits, Good}
 use Rattle.walks.specs.Plain.{InRange, plain-rising, plain-good, plain-exactly, inside-fits}
 use Rattle.walks.specs.Listing.{answers-ascending, answers-unique}
 use Rattle.walks.specs.Potential.{Bounded}
-use Rattle.walks.specs.Preorder.{Smaller, first, then, ascending-smaller}
-use Rattle.walks.specs.Room.{imageOf, roomOf, room-get, image-zero}
-use Rattle.listed.specs.Loose.{Under, rank, LooseAnswer}
+use Rattle.walks.specs.Preorder.{Smaller, smaller-never, smaller-trans, ascending-smaller}
+use Rattle.walks.specs.Room.{imageOf, image-zero}
+use Rattle.walks.specs.Image.{image, Below, reverse-image}
+use Rattle.listed.specs.Loose.{LooseAnswer}
 use Rattle.listed.specs.Matching.{Match, match, answer-match}
 use Rattle.listed.specs.Choosing.{parentOf, choices, choices-plain, byName, looseAnswers, NodeFits, end-high, nodes-of, of-nodes}
-
--- ---- an answer read in the order of the nodes
-
-room-whole : (z : List ℕ) → roomOf (length z) z ≡ reverse z
-unfolding roomOf
-room-whole z = let k : length z - length z ≡ 0 = omega arith in ap (λ (i : ℕ). reverse z ++ replicate i 0) k ∙ append-nil (reverse z)
-
-pub rank-image : (z : List ℕ) (q : ℕ) → 1 ≤ q → rank (reverse z) q ≡ imageOf z q
-rank-image z q a =
-    let k : suc (q - 1) ≡ q = omega arith in
-    ap (λ (l : List ℕ). getD l (q - 1) 0) (sym (room-whole z)) ∙ room-get (length z) z (omega arith) (q - 1) ∙ ap (imageOf z) k
-
--- ---- the order of answers
-
-pub smaller-never : (y : List ℕ) → Smaller y y → ⊥
-smaller-never (x ∷ y) (first l) = omega arith
-smaller-never (x ∷ y) (then s) = smaller-never y s
-
-pub smaller-trans : (x y z : List ℕ) → Smaller x y → Smaller y z → Smaller x z
-smaller-trans (a ∷ x) (b ∷ y) (c ∷ z) (first l) (first k) = let j : a < c = omega arith in first j
-smaller-trans (a ∷ x) (b ∷ y) (c ∷ z) (first l) (then k) = first l
-smaller-trans (a ∷ x) (b ∷ y) (c ∷ z) (then h) (first k) = first k
-smaller-trans (a ∷ x) (b ∷ y) (c ∷ z) (then h) (then k) = then (smaller-trans x y z h k)
 
 module _ (n m : ℕ) (e w : Entries) (tree : Facts n e) (twig : Facts m w) where
   abbrev names : Choices
   names = choices n e w (byName e w)
 
   -- the image of a node's twig parent
-  parent-image : (z : List ℕ) (q : ℕ) → 1 < q → q ≤ m → rank (reverse z) (w .fa q) ≡ imageOf z (w .fa q)
-  parent-image z q a b = rank-image z (w .fa q) (twig .inner q a b)
+  parent-image : (z : List ℕ) (q : ℕ) → 1 < q → q ≤ m → image (reverse z) (w .fa q) ≡ imageOf z (w .fa q)
+  parent-image z q a b = reverse-image z (w .fa q) (twig .inner q a b)
 
   nodes-answer : (z : List ℕ) → length z ≡ m → ((q : ℕ) → 1 ≤ q → q ≤ m → NodeFits n m e w tree twig (byName e w) z q)
       → LooseAnswer n m e w (reverse z)
   nodes-answer z k h = record {
     nodes = length-reverse z ∙ k;
     each = λ q a b.
-        let i = rank-image z q a in
+        let i = reverse-image z q a in
         let f = h q a b in
         record {
           low = rw i (omega (arith, f .above));
@@ -73,7 +49,7 @@ module _ (n m : ℕ) (e w : Entries) (tree : Facts n e) (twig : Facts m w) where
         };
     below = λ q a b.
         let f = h q (omega arith) b in
-        rw (rank-image z q (omega arith), parent-image z q a b) (record { after = f .above; before = f .within a });
+        rw (reverse-image z q (omega arith), parent-image z q a b) (record { after = f .above; before = f .within a });
   }
 
   answer-nodes : (z : List ℕ) → LooseAnswer n m e w (reverse z) → (q : ℕ) → 1 ≤ q → q ≤ m → NodeFits n m e w tree twig (byName e w) z q
@@ -84,8 +60,8 @@ module _ (n m : ℕ) (e w : Entries) (tree : Facts n e) (twig : Facts m w) where
     test = true-passes (w .name q) (e .name (imageOf z q)) (rw i at (h .each q a b .name));
   }
     where
-      i : rank (reverse z) q ≡ imageOf z q
-      i = rank-image z q a
+      i : image (reverse z) q ≡ imageOf z q
+      i = reverse-image z q a
 
       parent-less : Dec (q ≡ 1) → imageOf z (w .fa q) < imageOf z q
       parent-less (yes k) = rw (ap (w .fa) k ∙ twig .root-fa, image-zero z) (rw i at (h .each q a b .low))
@@ -129,7 +105,7 @@ module _ (n m : ℕ) (e w : Entries) (tree : Facts n e) (twig : Facts m w) where
   pub loose-unique : (l : List (List ℕ)) → Pairs Smaller l → ((z : List ℕ) → List·Memᴰ z l ↔ LooseAnswer n m e w z)
       → l ≡ looseAnswers n m e w
   loose-unique l p h =
-      pairs-unique Smaller smaller-never smaller-trans l (looseAnswers n m e w) p loose-ascending
+      pairs-unique Smaller smaller-never (λ x y z p q. smaller-trans p q) l (looseAnswers n m e w) p loose-ascending
       (λ z k. loose-complete z (h z .0 k)) (λ z k. h z .1 (loose-sound z k))
 
   -- ---- the walk over a right table
@@ -157,7 +133,7 @@ module _ (n m : ℕ) (e w : Entries) (tree : Facts n e) (twig : Facts m w) where
     names-bits : (z : List ℕ) → LooseAnswer n m e w (reverse z) → (q : ℕ) → 1 ≤ q → q ≤ m → NodeFits n m e w tree twig pass z q
     names-bits z g q a b =
         let h = answer-nodes z g q a b in
-        let k : Match n m e w q (imageOf z q) = subst (Match n m e w q) (rank-image z q a)
+        let k : Match n m e w q (imageOf z q) = subst (Match n m e w q) (reverse-image z q a)
         (answer-match n m e w twig (reverse z) g q a b) in
         record {
           above = h .above;
@@ -215,7 +191,7 @@ module _ (n m : ℕ) (e w : Entries) (tree : Facts n e) (twig : Facts m w) where
               }),
         )
       where
-        under : (p r y : ℕ) → 1 ≤ r → r ≤ m → w .fa r ≡ p → Match n m e w p y → (c : ℕ) × Under e y c × Match n m e w r c
+        under : (p r y : ℕ) → 1 ≤ r → r ≤ m → w .fa r ≡ p → Match n m e w p y → (c : ℕ) × Below (e .ff) y c × Match n m e w r c
         under p r y a b f (match l h s at u sub) = (at r a b f, u r a b f, sub r a b f)
 
     pub bits-bounded : Bounded walked m n

@@ -1,18 +1,17 @@
 -- Masks bit by bit: when a twig node can stand at an entry.
 --   zero-bit     0 has no bit
 --   stands-each, each-stands, can-bit, can-none   when a twig node can stand at an entry, and has its bit in can
-use Prim.Native.Nat.{ℕ, _-_, _/_, _%_, _^_, _≤_, _<_}
+use Prim.Native.Nat.{ℕ, _-_, _^_, _≤_, _<_}
 use mathlib.Core.Path.{_≡_}
-use mathlib.Core.Logic.{_⊎_, inl, inr}
-use mathlib.Core.Bool.{Bool, true, false, not, _&&_, _||_}
+use mathlib.Core.Bool.{true, false, not, _||_}
 use native.Mathlib.Decide.{ℕ-discrete}
 use native.Mathlib.Nat.{zero-div}
 use lib.Dec.{eqb}
-use borrow.Author.Tests.{eq-eqb, ne-eqb, eqb-true}
-use Rattle.turns.specs.Truth.{and-left, and-right, and-both, or-cases, or-left, or-right}
+use borrow.Author.Tests.{eq-eqb, ne-eqb}
+use Rattle.turns.specs.Truth.{and-left, and-right, and-both, or-right}
 use Rattle.trees.specs.Signature.{Entries}
 use Rattle.trees.specs.Names.{passes, Passes, passes-true, true-passes}
-use Rattle.preparing.specs.Masks.{every, hasBit, maskOf}
+use Rattle.preparing.specs.Masks.{every, hasBit}
 use Rattle.preparing.proofs.Bits.{every-at, every-all, mask-bit, mask-above}
 use Rattle.preparing.specs.Preparing.{childrenIn, stands, canOf}
 

@@ -1,7 +1,5 @@
 -- Three trees with a twig each, prepared: no premise of the theorems is empty, and the wrong programs are tried on them.
---   five, oneOne         Five, all named 1, and the twig 1(1)
---   four, twoThreeFour   entries 1,4,5,0; 2,2,4,1; 3,1,4,2; 4,3,5,1 and the twig 2(3,4), which has no answer
---   ten, eight           Ten, and the twig 8(9,10), which has one answer
+-- They are those of `checked/specs/Menus`: Five with the twig 1(1); the four entries with 2(3,4), which has no answer; Ten with 8(9,10), which has one.
 --   prepBack, walkBack   what the code hands back for a turn of the rule
 --   prep-handed, walk-handed   that is what the promise asks
 --   five-accepted, four-accepted, ten-accepted   each signature and twig is accepted
@@ -22,6 +20,7 @@ use Rattle.checking.specs.declared.Stop.{Stop}
 use Rattle.checking.specs.Rule as check
 use Rattle.checking.specs.Turn.{turnWithin, lengthFault}
 use Rattle.checked.specs.Apart.{stopOf, told-stop}
+use Rattle.checked.specs.Menus.{ten, five, tarts, fork, pair}
 use Rattle.preparing.specs.declared.Started.{Started}
 use Rattle.walking.specs.declared.Walk.{Walk}
 use Rattle.walking.specs.declared.WalkTurn.{WalkTurn}
@@ -48,45 +47,17 @@ walkBack t = record { walk = t .state; steps = t .steps; stop = stopOf (t .halt)
 pub walk-handed : (t : Turned Walk) → WalkHanded (walkBack t) t
 walk-handed t = record { walk = refl; steps = refl; stop = told-stop (t .halt) }
 
--- ---- the trees and the twigs
-
--- "Five, all named 1: 5,6,0; 1,3,1; 4,6,1; 2,5,3; 3,6,3."
-abbrev pub five : List ℕ
-five = 1 ∷ 5 ∷ 6 ∷ 0 ∷ 1 ∷ 1 ∷ 3 ∷ 1 ∷ 1 ∷ 4 ∷ 6 ∷ 1 ∷ 1 ∷ 2 ∷ 5 ∷ 3 ∷ 1 ∷ 3 ∷ 6 ∷ 3 ∷ []
-
--- "the twig 1(1)", as its numbers
-abbrev pub oneOne : List ℕ
-oneOne = 1 ∷ 2 ∷ 3 ∷ 0 ∷ 1 ∷ 1 ∷ 3 ∷ 1 ∷ []
-
--- "Entries 1,4,5,0; 2,2,4,1; 3,1,4,2; 4,3,5,1"
-abbrev pub four : List ℕ
-four = 1 ∷ 4 ∷ 5 ∷ 0 ∷ 2 ∷ 2 ∷ 4 ∷ 1 ∷ 3 ∷ 1 ∷ 4 ∷ 2 ∷ 4 ∷ 3 ∷ 5 ∷ 1 ∷ []
-
--- "twig 2(3,4)", as its numbers
-abbrev pub twoThreeFour : List ℕ
-twoThreeFour = 2 ∷ 3 ∷ 4 ∷ 0 ∷ 3 ∷ 1 ∷ 3 ∷ 1 ∷ 4 ∷ 2 ∷ 4 ∷ 1 ∷ []
-
--- "Ten: names 1 2 3 4 5 7 6 8 9 10 with (post, ff, fa) 10,11,0; 5,7,1; 3,6,2; 1,5,3; [..]"
-abbrev pub ten : List ℕ
-ten =
-    1 ∷ 10 ∷ 11 ∷ 0 ∷ 2 ∷ 5 ∷ 7 ∷ 1 ∷ 3 ∷ 3 ∷ 6 ∷ 2 ∷ 4 ∷ 1 ∷ 5 ∷ 3 ∷ 5 ∷ 2 ∷ 6 ∷ 3 ∷ 7 ∷ 4 ∷ 7 ∷ 2 ∷ 6 ∷ 9 ∷ 11 ∷ 1
-    ∷ 8 ∷ 8 ∷ 11 ∷ 7 ∷ 9 ∷ 6 ∷ 10 ∷ 8 ∷ 10 ∷ 7 ∷ 11 ∷ 8 ∷ []
-
--- "Twig 8(9,10) on Ten", as its numbers
-abbrev pub eight : List ℕ
-eight = 8 ∷ 3 ∷ 4 ∷ 0 ∷ 9 ∷ 1 ∷ 3 ∷ 1 ∷ 10 ∷ 2 ∷ 4 ∷ 1 ∷ []
-
 -- ---- accepted
 
-pub five-accepted : Accepted five oneOne
+pub five-accepted : Accepted five pair
 unfolding turnWithin lengthFault check.inRange run check.stepOf check.closeOf check.nameless check.secondRoot check.accepted cell
 five-accepted = record { data-tree = refl; twig = refl }
 
-pub four-accepted : Accepted four twoThreeFour
+pub four-accepted : Accepted tarts (fork 2 3 4)
 unfolding turnWithin lengthFault check.inRange run check.stepOf check.closeOf check.nameless check.secondRoot check.accepted cell
 four-accepted = record { data-tree = refl; twig = refl }
 
-pub ten-accepted : Accepted ten eight
+pub ten-accepted : Accepted ten (fork 8 9 10)
 unfolding turnWithin lengthFault check.inRange run check.stepOf check.closeOf check.nameless check.secondRoot check.accepted cell
 ten-accepted = record { data-tree = refl; twig = refl }
 
@@ -121,7 +92,7 @@ unfolding startFault cleared
 five-start = record { answer = refl; leaves = refl }
 
 -- two turns, of 2 steps and of at most 9
-pub five-turns : PrepTurns five oneOne (record { state = prepAt 5; table = clearedFor 5 }) 11 5 (back 0 3 Stop.End fiveTable)
+pub five-turns : PrepTurns five pair (record { state = prepAt 5; table = clearedFor 5 }) 11 5 (back 0 3 Stop.End fiveTable)
 unfolding begun ready givenOf turnWithin lengthFault check.inRange run check.stepOf check.closeOf check.nameless check.secondRoot
     check.accepted cell
     every hasBit mask put passes childrenIn stands canOf badParent written joined stepTable prepStep cleared
@@ -130,7 +101,7 @@ five-turns =
     (record { state = refl; steps = refl; stop = refl; leaves = refl })
     (one {b = 9} (record { state = refl; steps = refl; stop = refl; leaves = refl }))
 
-pub five-prepared : Prepared five oneOne fiveTable
+pub five-prepared : Prepared five pair fiveTable
 five-prepared = record {
   lent = lentFor 5;
   cleared = clearedFor 5;
@@ -143,7 +114,7 @@ five-prepared = record {
   ended = refl;
 }
 
-pub four-prepared : Prepared four twoThreeFour fourTable
+pub four-prepared : Prepared tarts (fork 2 3 4) fourTable
 unfolding startFault begun ready givenOf turnWithin lengthFault check.inRange run check.stepOf check.closeOf check.nameless check.secondRoot
     check.accepted cell every hasBit mask put passes childrenIn stands canOf badParent written joined stepTable prepStep cleared
 four-prepared = record {
@@ -158,7 +129,7 @@ four-prepared = record {
   ended = refl;
 }
 
-pub ten-prepared : Prepared ten eight tenTable
+pub ten-prepared : Prepared ten (fork 8 9 10) tenTable
 unfolding startFault begun ready givenOf turnWithin lengthFault check.inRange run check.stepOf check.closeOf check.nameless check.secondRoot
     check.accepted cell every hasBit mask put passes childrenIn stands canOf badParent written joined stepTable prepStep cleared
 ten-prepared = record {

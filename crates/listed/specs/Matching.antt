@@ -15,7 +15,8 @@ use Rattle.turns.specs.Pick.{pick}
 use Rattle.trees.specs.Signature.{Entries}
 use Rattle.trees.specs.Facts.{Facts, Inside, Follows}
 use Rattle.trees.specs.Names.{Passes}
-use Rattle.listed.specs.Loose.{Under, rank, Ranked, LooseAnswer, PartFits}
+use Rattle.walks.specs.Image.{image, Below}
+use Rattle.listed.specs.Loose.{Ranked, LooseAnswer, PartFits}
 
 -- the images x, with y for node r
 unfoldable placing : (ℕ → ℕ) → ℕ → ℕ → ℕ → ℕ
@@ -33,7 +34,7 @@ placing-other x r y i h = rw (ne-eqb i r h)
 pub data Match (n m : ℕ) (e w : Entries) : ℕ → ℕ → Type 0 where
   match : {q t : ℕ} → 1 ≤ t → t ≤ n → Passes (w .name q) (e .name t)
       → (at : (r : ℕ) → 1 ≤ r → r ≤ m → w .fa r ≡ q → ℕ)
-      → ((r : ℕ) (a : 1 ≤ r) (b : r ≤ m) (f : w .fa r ≡ q) → Under e t (at r a b f))
+      → ((r : ℕ) (a : 1 ≤ r) (b : r ≤ m) (f : w .fa r ≡ q) → Below (e .ff) t (at r a b f))
       → ((r : ℕ) (a : 1 ≤ r) (b : r ≤ m) (f : w .fa r ≡ q) → Match n m e w r (at r a b f))
       → Match n m e w q t
 
@@ -62,10 +63,10 @@ module _ (n m : ℕ) (e w : Entries) (twig : Facts m w) where
       own : Ranked n e w (p .image) q
       own = p .each q (omega arith) (twig .each q a b .ff-low)
 
-      placed : (r : ℕ) → 1 ≤ r → r ≤ m → w .fa r ≡ q → Under e (p .image q) (p .image r)
+      placed : (r : ℕ) → 1 ≤ r → r ≤ m → w .fa r ≡ q → Below (e .ff) (p .image q) (p .image r)
       placed r c k f =
           let i = kid-of q r a c k f in
-          subst (λ (x : ℕ). Under e (p .image x) (p .image r)) f (p .below r (i .after) (i .inside))
+          subst (λ (x : ℕ). Below (e .ff) (p .image x) (p .image r)) f (p .below r (i .after) (i .inside))
 
       part : (r : ℕ) → 1 ≤ r → r ≤ m → w .fa r ≡ q → PartFits n e w r (p .image r)
       part r c k f =
@@ -81,12 +82,12 @@ module _ (n m : ℕ) (e w : Entries) (twig : Facts m w) where
   fits-match q t a b p = fits-from (suc m) q t a b (omega arith) p
 
   -- each node of a loose answer has a match at its image
-  pub answer-match : (l : List ℕ) → LooseAnswer n m e w l → (q : ℕ) → 1 ≤ q → q ≤ m → Match n m e w q (rank l q)
+  pub answer-match : (l : List ℕ) → LooseAnswer n m e w l → (q : ℕ) → 1 ≤ q → q ≤ m → Match n m e w q (image l q)
   answer-match l h q a b =
       let i = twig .each q a b in
-      fits-match q (rank l q) a b
+      fits-match q (image l q) a b
       (record {
-        image = rank l;
+        image = image l;
         top = refl;
         each = λ r u v. h .each r (omega arith) (omega (arith, i .ff-high));
         below = λ r u v. h .below r (omega arith) (omega (arith, i .ff-high));
@@ -100,10 +101,10 @@ module _ (n m : ℕ) (e w : Entries) (twig : Facts m w) where
       image : ℕ → ℕ
       top : image q ≡ t
       each : (r : ℕ) → q ≤ r → r < q + k → Match n m e w r (image r)
-      below : (r : ℕ) → q < r → r < q + k → Under e (image (w .fa r)) (image r)
+      below : (r : ℕ) → q < r → r < q + k → Below (e .ff) (image (w .fa r)) (image r)
 
     -- an image for the match of a child of p
-    below-match : (p r x : ℕ) → 1 ≤ r → r ≤ m → w .fa r ≡ p → Match n m e w p x → (y : ℕ) × Under e x y × Match n m e w r y
+    below-match : (p r x : ℕ) → 1 ≤ r → r ≤ m → w .fa r ≡ p → Match n m e w p x → (y : ℕ) × Below (e .ff) x y × Match n m e w r y
     below-match p r x a b f (match l h s at u sub) = (at r a b f, u r a b f, sub r a b f)
 
     begun : (k : ℕ) → q + suc k ≤ w .ff q → Match n m e w q t → Begun (suc k)
@@ -147,10 +148,10 @@ module _ (n m : ℕ) (e w : Entries) (twig : Facts m w) where
             each-of g y h here same i a b (yes z) = rw (z, here) h
             each-of g y h here same i a b (no z) = rw (same i (omega arith)) (g .each i a (omega arith))
 
-            below-of : (g : Begun (suc k)) (y : ℕ) → Under e (g .image (w .fa r)) y → placing (g .image) r y r ≡ y
+            below-of : (g : Begun (suc k)) (y : ℕ) → Below (e .ff) (g .image (w .fa r)) y → placing (g .image) r y r ≡ y
                 → ((i : ℕ) → i < r → placing (g .image) r y i ≡ g .image i) → w .fa r < r
                 → (i : ℕ) → q < i → i < q + suc (suc k) → Dec (i ≡ r)
-                → Under e (placing (g .image) r y (w .fa i)) (placing (g .image) r y i)
+                → Below (e .ff) (placing (g .image) r y (w .fa i)) (placing (g .image) r y i)
             below-of g y h here same up i a b (yes z) = rw (z, here, same (w .fa r) up) h
             below-of g y h here same up i a b (no z) =
                 let f : w .fa i < i = twig .each i (omega arith) (omega (arith, r-high)) .fa-high in

@@ -20,10 +20,11 @@ use Rattle.walks.specs.Plain.{plain-rising}
 use Rattle.walks.specs.Ranges.{reached-least}
 use Rattle.walks.specs.Potential.{Bounded}
 use Rattle.walks.specs.Room.{imageOf, roomOf, image-unset, image-top}
-use Rattle.walking.specs.declared.Phase.{Phase}
+use Rattle.walk_ranges.specs.declared.Phase.{Phase}
 use Rattle.walking.specs.declared.Walk.{Walk}
 use Rattle.preparing.specs.Masks.{every}
-use Rattle.walking.specs.Walking.{image, at, placed, imageFits, phaseFits, inRange}
+use Rattle.walk_ranges.specs.Ranges.{image, placed, imageFits, phaseFits}
+use Rattle.walking.specs.Walking.{at, inRange}
 use Rattle.preparing.proofs.Bits.{every-all}
 use Rattle.listed.specs.Choosing.{parentOf, choices, choices-plain}
 use Rattle.listed.specs.Saved.{byBit, shown, image-room, Way, nodes}

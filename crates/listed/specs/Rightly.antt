@@ -18,7 +18,8 @@ use Rattle.trees.specs.Signature.{Entries, cell}
 use Rattle.trees.specs.Facts.{Facts, Inside, Follows}
 use Rattle.preparing.specs.Masks.{hasBit, can, below}
 use Rattle.preparing.specs.PrepTurn.{cleared}
-use Rattle.listed.specs.Loose.{Under, PartFits}
+use Rattle.walks.specs.Image.{Below}
+use Rattle.listed.specs.Loose.{PartFits}
 use Rattle.listed.specs.Matching.{Match, fits-match, match-fits}
 use Rattle.listed.specs.Bits.{zero-bit}
 use Rattle.listed.specs.Tables.{clear-get}
@@ -76,7 +77,7 @@ module _ (n : ℕ) (e : Entries) (tree : Facts n e) where
   in-child s j a b c h = climb (suc j) s j (omega arith) a b c h
 
   -- what lies in the block of a child lies in the block of the parent
-  pub child-under : (s j : ℕ) → 1 ≤ s → Child n e s j → Under e s j
+  pub child-under : (s j : ℕ) → 1 ≤ s → Child n e s j → Below (e .ff) s j
   child-under s j a g =
       let i = subst (λ (x : ℕ). Inside e x (g .child)) (g .parent) (tree .own (g .child) (omega (arith, g .after)) (g .last)) in
       record { after = omega (arith, g .after, g .low); before = omega (arith, g .high, i .nested) }

@@ -29,11 +29,12 @@ use Rattle.walks.specs.Potential.{Bounded, Trying, OnTheWay}
 use Rattle.walks.specs.Falling.{after-answer, step-way}
 use Rattle.walks.specs.Room.{imageOf, roomOf, room-get, room-set, room-drop, image-zero, image-top, image-down}
 use Rattle.walks.specs.Mirror.{asNext, Mirrors}
-use Rattle.walking.specs.declared.Phase.{Phase}
+use Rattle.walk_ranges.specs.declared.Phase.{Phase}
 use Rattle.walking.specs.declared.Walk.{Walk}
 use Rattle.preparing.specs.Masks.{hasBit}
 use Rattle.walking.specs.Walking as saved
-use Rattle.walking.specs.Walking.{image, place, at, endOf, badEnd, back, walkOn, stepOf, ended}
+use Rattle.walk_ranges.specs.Ranges.{image, place}
+use Rattle.walking.specs.Walking.{at, endOf, badEnd, back, walkOn, stepOf, ended}
 use Rattle.listed.specs.Choosing.{parentOf, endAfter, choices, choices-plain, NodeFits, nodes-of}
 
 -- "can of entry c has the bit of k"

@@ -22,29 +22,31 @@ use Rattle.walks.specs.Chained.{told}
 use Rattle.checking.specs.declared.Stop.{Stop}
 use Rattle.checking.specs.Rule as check
 use Rattle.checking.specs.Turn.{turnWithin, lengthFault}
-use Rattle.walking.specs.declared.Phase.{Phase}
+use Rattle.walk_ranges.specs.declared.Phase.{Phase}
 use Rattle.walking.specs.declared.WalkTurn.{WalkTurn}
 use Rattle.preparing.specs.Masks.{every, hasBit, can}
 use Rattle.preparing.specs.Given.{givenOf, ready, begun}
 use Rattle.preparing.specs.PrepTurn.{prepAt}
-use Rattle.walking.specs.Walking.{image, place, at, fresh, imageFits, phaseFits, inRange, endOf, badEnd, back, found, walkOn, stepOf}
+use Rattle.walk_ranges.specs.Ranges.{image, place, imageFits, phaseFits}
+use Rattle.walking.specs.Walking.{at, fresh, inRange, endOf, badEnd, back, found, walkOn, stepOf}
 use Rattle.walking.specs.WalkTurn.{walkTurnOf}
 use Rattle.listed.specs.Loose.{PartFits}
 use Rattle.listed.specs.Questions.{TableSays, WalkTurns, tellOf, start, handed}
 use Rattle.listed.specs.Prepared.{prepare-n}
 use Rattle.listed.specs.Choosing.{looseAnswers, parentOf}
 use Rattle.listed.specs.Exactly.{allLoose, Within, loose-exactly, walk-within}
-use Rattle.listed.specs.Cases.{walk-handed, five, oneOne, four, twoThreeFour, ten, eight, five-accepted, four-accepted, ten-accepted}
+use Rattle.checked.specs.Menus.{ten, five, tarts, fork, ones, pair}
+use Rattle.listed.specs.Cases.{walk-handed, five-accepted, four-accepted, ten-accepted}
 use Rattle.listed.specs.Cases.{fiveTable, fourTable, tenTable, lentFor, clearedFor}
 use Rattle.listed.specs.Cases.{five-start, five-turns, five-prepared, four-prepared, ten-prepared}
 
 -- ---- preparing
 
-pub five-right : (_≡_ {A = ℕ} 5 5) × TableSays five oneOne fiveTable
-five-right = prepare-n five oneOne five-accepted (lentFor 5) (clearedFor 5) (prepAt 5) five-start five-turns refl
+pub five-right : (_≡_ {A = ℕ} 5 5) × TableSays five pair fiveTable
+five-right = prepare-n five pair five-accepted (lentFor 5) (clearedFor 5) (prepAt 5) five-start five-turns refl
 
 -- the twig 1(1) fits with its root at entry 1, and not with its root at entry 2, which has nothing below it
-pub five-fits : PartFits 5 (entriesOf width five) (entriesOf width oneOne) 1 1
+pub five-fits : PartFits 5 (entriesOf width five) (entriesOf width pair) 1 1
 unfolding hasBit cell
 five-fits = five-right .1 1 1 (omega arith) (omega arith) (omega arith) (omega arith) .0 refl
 
@@ -52,7 +54,7 @@ no-bit : hasBit (can fiveTable 2) 1 ≡ false
 unfolding hasBit cell
 no-bit = refl
 
-pub five-not : PartFits 5 (entriesOf width five) (entriesOf width oneOne) 1 2 → ⊥
+pub five-not : PartFits 5 (entriesOf width five) (entriesOf width pair) 1 2 → ⊥
 five-not p =
     let h = five-right .1 1 2 (omega arith) (omega arith) (omega arith) (omega arith) .1 p in
     let q = sym no-bit ∙ h in let z : _≡_ {A = ℕ} 0 1 = cc in omega arith
@@ -63,7 +65,7 @@ five-not p =
 abbrev over : ℕ → ℕ → WalkTurn
 over n k = record { walk = at (replicate 16 0) 1 (n + 1) Phase.Ended; steps = k; stop = Stop.End }
 
-pub five-chain : WalkTurns five oneOne fiveTable fresh 63 14 (over 5 4)
+pub five-chain : WalkTurns five pair fiveTable fresh 63 14 (over 5 4)
 unfolding begun ready givenOf turnWithin lengthFault check.inRange run check.stepOf check.closeOf check.nameless check.secondRoot
     check.accepted cell
     every hasBit image place imageFits phaseFits inRange endOf badEnd back found walkOn stepOf
@@ -82,11 +84,11 @@ unfolding told five-chain begun ready givenOf turnWithin lengthFault check.inRan
 five-told = refl
 
 -- all loose answers, by loose-exactly
-pub five-listed : allLoose five oneOne ≡ sixAnswers
-five-listed = sym (loose-exactly five oneOne five-accepted fiveTable five-prepared five-chain .whole refl) ∙ five-told
+pub five-listed : allLoose five pair ≡ sixAnswers
+five-listed = sym (loose-exactly five pair five-accepted fiveTable five-prepared five-chain .whole refl) ∙ five-told
 
 -- the same by computing the list
-pub five-computed : allLoose five oneOne ≡ sixAnswers
+pub five-computed : allLoose five pair ≡ sixAnswers
 unfolding looseAnswers answersFrom passing passingOf flatMap parentOf imageOf passes cell
 five-computed = refl
 
@@ -97,32 +99,32 @@ abbrev firstAnswer : ℕ → WalkTurn
 firstAnswer k = record { walk = at (1 ∷ 2 ∷ replicate 14 0) 2 2 Phase.Answer; steps = k; stop = Stop.Answer }
 
 -- two turns from the start to the first answer, and two from there to the second
-pub five-start-chain : WalkTurns five oneOne fiveTable fresh 22 2 (firstAnswer 1)
+pub five-start-chain : WalkTurns five pair fiveTable fresh 22 2 (firstAnswer 1)
 unfolding begun ready givenOf turnWithin lengthFault check.inRange run check.stepOf check.closeOf check.nameless check.secondRoot
     check.accepted cell
     every hasBit image place imageFits phaseFits inRange endOf badEnd back found walkOn stepOf
 five-start-chain = more {b = 1} (walk-handed _) (one {b = 21} (walk-handed _))
 
-pub five-from-start : Within five oneOne 22 2 (firstAnswer 1)
+pub five-from-start : Within five pair 22 2 (firstAnswer 1)
 unfolding five-start-chain
-five-from-start = walk-within five oneOne five-accepted fiveTable five-prepared start five-start-chain (refl, tt)
+five-from-start = walk-within five pair five-accepted fiveTable five-prepared start five-start-chain (refl, tt)
 
-pub five-next-chain : WalkTurns five oneOne fiveTable (firstAnswer 1 .walk) 21 1
+pub five-next-chain : WalkTurns five pair fiveTable (firstAnswer 1 .walk) 21 1
     (record { walk = at (1 ∷ 3 ∷ replicate 14 0) 2 3 Phase.Answer; steps = 1; stop = Stop.Answer })
 unfolding begun ready givenOf turnWithin lengthFault check.inRange run check.stepOf check.closeOf check.nameless check.secondRoot
     check.accepted cell
     every hasBit image place imageFits phaseFits inRange endOf badEnd back found walkOn stepOf
 five-next-chain = more {b = 0} (walk-handed _) (one {b = 21} (walk-handed _))
 
-pub five-from-answer : Within five oneOne 21 1 (record
+pub five-from-answer : Within five pair 21 1 (record
     { walk = at (1 ∷ 3 ∷ replicate 14 0) 2 3 Phase.Answer; steps = 1; stop = Stop.Answer })
 unfolding five-next-chain
-five-from-answer = walk-within five oneOne five-accepted fiveTable five-prepared (handed five-start-chain) five-next-chain (refl, tt)
+five-from-answer = walk-within five pair five-accepted fiveTable five-prepared (handed five-start-chain) five-next-chain (refl, tt)
 
 -- ---- the starred cases
 
 -- "Twig 8(9,10) on Ten": one answer
-pub ten-chain : WalkTurns ten eight tenTable fresh 198 17 (over 10 6)
+pub ten-chain : WalkTurns ten (fork 8 9 10) tenTable fresh 198 17 (over 10 6)
 unfolding begun ready givenOf turnWithin lengthFault check.inRange run check.stepOf check.closeOf check.nameless check.secondRoot
     check.accepted cell
     every hasBit image place imageFits phaseFits inRange endOf badEnd back found walkOn stepOf
@@ -134,24 +136,24 @@ unfolding told ten-chain begun ready givenOf turnWithin lengthFault check.inRang
     every hasBit image place imageFits phaseFits inRange endOf badEnd back found walkOn stepOf
 ten-told = refl
 
-pub ten-listed : allLoose ten eight ≡ (8 ∷ 9 ∷ 10 ∷ []) ∷ []
-ten-listed = sym (loose-exactly ten eight ten-accepted tenTable ten-prepared ten-chain .whole refl) ∙ ten-told
+pub ten-listed : allLoose ten (fork 8 9 10) ≡ (8 ∷ 9 ∷ 10 ∷ []) ∷ []
+ten-listed = sym (loose-exactly ten (fork 8 9 10) ten-accepted tenTable ten-prepared ten-chain .whole refl) ∙ ten-told
 
 -- entries 1,4,5,0; 2,2,4,1; 3,1,4,2; 4,3,5,1 and the twig 2(3,4): none
-pub four-chain : WalkTurns four twoThreeFour fourTable fresh 99 5 (over 4 5)
+pub four-chain : WalkTurns tarts (fork 2 3 4) fourTable fresh 99 5 (over 4 5)
 unfolding begun ready givenOf turnWithin lengthFault check.inRange run check.stepOf check.closeOf check.nameless check.secondRoot
     check.accepted cell
     every hasBit image place imageFits phaseFits inRange endOf badEnd back found walkOn stepOf
 four-chain = one {b = 99} (walk-handed _)
 
-pub four-listed : allLoose four twoThreeFour ≡ []
+pub four-listed : allLoose tarts (fork 2 3 4) ≡ []
 unfolding told begun ready givenOf turnWithin lengthFault check.inRange run check.stepOf check.closeOf check.nameless check.secondRoot
     check.accepted cell
     every hasBit image place imageFits phaseFits inRange endOf badEnd back found walkOn stepOf
-four-listed = sym (loose-exactly four twoThreeFour four-accepted fourTable four-prepared
-    (one {b = 99} (walk-handed (walkTurnOf four twoThreeFour fourTable 99 fresh))) .whole refl)
+four-listed = sym (loose-exactly tarts (fork 2 3 4) four-accepted fourTable four-prepared
+    (one {b = 99} (walk-handed (walkTurnOf tarts (fork 2 3 4) fourTable 99 fresh))) .whole refl)
 
 -- "1(1,1,1): … 72 loose"
-pub star-count : length (allLoose five (1 ∷ 4 ∷ 5 ∷ 0 ∷ 1 ∷ 1 ∷ 3 ∷ 1 ∷ 1 ∷ 2 ∷ 4 ∷ 1 ∷ 1 ∷ 3 ∷ 5 ∷ 1 ∷ [])) ≡ 72
+pub star-count : length (allLoose five ones) ≡ 72
 unfolding looseAnswers answersFrom passing passingOf flatMap parentOf imageOf passes cell
 star-count = refl

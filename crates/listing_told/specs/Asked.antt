@@ -2,13 +2,13 @@
 --   Asked b            b is the tag list of a data tree and at once the tag list of a twig
 --   Exactly b          b is a question exactly if it is that, and what is read then are the signatures of the two trees
 --   question-exactly   so it is, for any input bytes
-use Prim.Native.Nat.{ℕ, _+_, _*_, _≤_}
+use Prim.Native.Nat.{ℕ, _≤_}
 use mathlib.Core.Path.{_≡_, ap, _∙_}
-use mathlib.Core.Bool.{true, false}
+use mathlib.Core.Bool.{false}
 use mathlib.Core.List.{List, _++_}
 use native.Mathlib.Omega.{arith}
 use lib.ListN.{length, length-append}
-use Rattle.trees.specs.Tree.{Tree, size, whole, Grown}
+use Rattle.trees.specs.Tree.{Tree, whole, Grown}
 use Rattle.trees.specs.Signature.{signature}
 use Rattle.trees.specs.Tags.{treeTags}
 use Rattle.checking.specs.declared.Kind.{Kind}

@@ -11,17 +11,12 @@ use native.Mathlib.Omega.{arith}
 use lib.ListN.{length, drop, replicate}
 use lib.Seq.{getD-drop}
 use borrow.Author.Tests.{ne-eqb, le-leb}
-use Rattle.turns.specs.Turn.{Halt, Turned}
+use Rattle.turns.specs.Turn.{Turned}
 use Rattle.turns.specs.Chains.{one}
 use Rattle.trees.specs.Signature.{entries}
 use Rattle.checking.specs.declared.Kind.{Kind}
 use Rattle.checking.specs.declared.Stop.{Stop}
-use Rattle.checking.specs.declared.Verdict.{Verdict}
 use Rattle.checking.specs.Kinds.{anyName, most}
-use Rattle.checking.specs.Stops.{haltTold, verdictTold}
-use Rattle.checking.specs.Rule.{fresh}
-use Rattle.checking.specs.Turn.{turnOf}
-use Rattle.checking.specs.Whole.{WholePromise}
 use Rattle.checked.specs.Yields.{Yields}
 use Rattle.checked.specs.Wholly.{accepted-tree, yields-accepted}
 use Rattle.bytes_read.specs.Scans.{haltNumber}

@@ -2,15 +2,14 @@
 --   Chain st B K r      public turns from st whose budgets add up to B and whose steps to K; r is what the last one answered
 --   turn-cut, turn-kept a turn of a + b steps is one of a and then one of b; where the first one stopped, it is the first one
 --   chain-ends          where the rule leads to a finished state in N steps, turns with N steps in all report the end, after N steps
-use Prim.Native.Nat.{ℕ, zero, suc, _+_, _-_, _≤_, _<_}
+use Prim.Native.Nat.{ℕ, _+_, _-_, _≤_, _<_}
 use mathlib.Core.Path.{_≡_, refl, ap, _∙_, sym, subst}
 use mathlib.Core.Logic.{_⊎_, inl, inr}
 use mathlib.Core.Bool.{Bool, true, false}
 use native.Mathlib.Omega.{arith}
 use native.Mathlib.Decide.{decLe}
-use native.Mathlib.Nat.{add-zero, zero-add}
-use Rattle.turns.specs.Turn.{Next, moved, answered, refused, Halt, answer, end, budget, refusal, Turned, run, turn, Moves, stay, move, Step, on, found, Steps, none, then, Outcome, ended, spent, told, faulty}
-use Rattle.turns.specs.Laws.{turn-outcome, outcome-turn, after, ended-finished, AtFault, stops-before-the-fault}
+use Rattle.turns.specs.Turn.{Next, refused, answer, end, budget, refusal, Turned, turn, Moves, stay, Steps, Outcome, ended, spent, told, faulty}
+use Rattle.turns.specs.Laws.{turn-outcome, outcome-turn, after, ended-finished, stops-before-the-fault}
 use Rattle.turns.specs.Counts.{moves-append, steps-append, moves-split, Split, moves-on, counted}
 
 -- ---- chains, over whatever a public turn promises

@@ -4,10 +4,10 @@
 --   count-unique     where each step makes progress, no two counts join the same two states
 use Prim.Native.Nat.{ℕ, zero, suc, _+_, _-_, _≤_, _<_}
 use mathlib.Core.Path.{_≡_, refl, ap, _∙_, sym, subst}
-use mathlib.Core.Bool.{Bool, true, false}
+use mathlib.Core.Bool.{Bool, false}
 use native.Mathlib.Omega.{arith}
 use native.Mathlib.Nat.{not-suc-le-zero, zero-add, suc-add}
-use Rattle.turns.specs.Turn.{Next, moved, answered, refused, Halt, answer, end, budget, refusal, Turned, run, turn, Moves, stay, move, Step, on, found, Steps, none, then, Outcome, ended, spent, told, faulty}
+use Rattle.turns.specs.Turn.{Next, Turned, turn, Moves, stay, move, Step, on, found, Steps, none, then, Outcome, ended, spent, told, faulty}
 use Rattle.turns.specs.Laws.{turn-outcome}
 
 module _ (S : Type 0) (finished : S → Bool) (step : S → Next S) where

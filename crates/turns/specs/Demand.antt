@@ -5,7 +5,7 @@
 --   faithful-turn         a faithful call hands back the turns of the rule, and nothing else
 --   shut-out-…            a call that leaves another state, or says another count, than the turn of the rule
 use Prim.Native.Nat.{ℕ}
-use mathlib.Core.Path.{_≡_, refl, ap, _∙_, sym, subst}
+use mathlib.Core.Path.{_≡_, ap, sym}
 use mathlib.Core.Bool.{Bool}
 use Rattle.turns.specs.Turn.{Next, Turned, turn, Outcome}
 use Rattle.turns.specs.Laws.{turn-outcome, outcome-turn}

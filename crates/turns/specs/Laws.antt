@@ -6,12 +6,10 @@
 --   stops-before-the-fault   a refusal is that of the next step, which the budget would have paid for
 use Prim.Native.Nat.{ℕ, zero, suc, _+_, _-_, _≤_, _<_}
 use mathlib.Core.Path.{_≡_, refl, ap, _∙_, sym, subst}
-use mathlib.Core.Logic.{_⊎_, inl, inr}
 use mathlib.Core.Bool.{Bool, true, false}
 use native.Mathlib.Omega.{arith}
-use native.Mathlib.Nat.{not-suc-le-zero, zero-add, add-zero, add-suc, suc-add}
-use Rattle.turns.specs.Pick.{pick}
-use Rattle.turns.specs.Turn.{Next, moved, answered, refused, Halt, answer, end, budget, refusal, Turned, onNext, run, turn, Moves, stay, move, Outcome, ended, spent, told, faulty}
+use native.Mathlib.Nat.{not-suc-le-zero, zero-add, add-zero}
+use Rattle.turns.specs.Turn.{Next, moved, answered, refused, answer, end, budget, refusal, Turned, run, turn, Moves, stay, move, Outcome, ended, spent, told, faulty}
 
 module _ (S : Type 0) (finished : S → Bool) (step : S → Next S) where
   -- ---- which case holds

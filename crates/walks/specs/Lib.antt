@@ -6,6 +6,7 @@ pub mod Ranges
 pub mod Comparing
 pub mod Preorder
 pub mod Room
+pub mod Image
 pub mod Stepping
 pub mod Listing
 pub mod Plain

@@ -7,13 +7,13 @@
 --   shut-out-idle        a call that writes nothing
 --   ten-child            axis-is-xpath, used once on Ten
 use Prim.Native.Nat.{ℕ, _≤_, _<_}
-use mathlib.Core.Path.{_≡_, refl, ap, _∙_, sym, subst}
-use mathlib.Core.Logic.{_⊎_, inl, inr, ⊎-elim}
+use mathlib.Core.Path.{_≡_, refl, ap, _∙_, sym}
+use mathlib.Core.Logic.{⊎-elim}
 use mathlib.Core.List.{List, [], _∷_, _++_, map, List·Memᴰ·not-nil}
 use native.Mathlib.Omega.{arith}
 use lib.ListN.{length, getD, drop}
 use Rattle.turns.specs.Turn.{run}
-use Rattle.trees.specs.Tree.{Tree, whole}
+use Rattle.trees.specs.Tree.{whole}
 use Rattle.trees.specs.Nodes.{Node, here, under, beside}
 use Rattle.trees.specs.Ranks.{pre}
 use Rattle.trees.specs.Signature.{cell}

@@ -6,12 +6,12 @@
 use Prim.Native.Nat.{ℕ, _+_, _*_, _-_}
 use mathlib.Core.Path.{_≡_, refl, ap, _∙_}
 use mathlib.Core.Logic.{_⊎_}
-use mathlib.Core.List.{List, [], _∷_}
+use mathlib.Core.List.{List, []}
 use native.Mathlib.Omega.{arith}
 use lib.ListN.{length, take, drop}
 use Rattle.turns.specs.Turn.{run}
 use Rattle.trees.specs.Tree.{whole}
-use Rattle.trees.specs.Nodes.{Node, here, under, beside, Ancestor, ancestors, levelOf}
+use Rattle.trees.specs.Nodes.{Node, here, under, Ancestor, ancestors, levelOf}
 use Rattle.trees.specs.Ranks.{pre, heldBy}
 use Rattle.trees.specs.Signature.{cell}
 use Rattle.checking.specs.declared.Kind.{Kind}

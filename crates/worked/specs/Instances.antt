@@ -1,18 +1,16 @@
 -- Each theorem of the check that has a premise, used once on a starred case: so no premise is empty.
-use Prim.Native.Nat.{ℕ, zero, suc, _+_, _*_, _≤_, _<_}
-use mathlib.Core.Path.{_≡_, refl, ap, _∙_, sym}
+use Prim.Native.Nat.{ℕ, suc, _+_, _<_}
+use mathlib.Core.Path.{_≡_, refl}
 use mathlib.Core.List.{List, [], _∷_}
-use mathlib.Core.Bool.{Bool, true, false}
+use mathlib.Core.Bool.{false}
 use native.Mathlib.Omega.{arith}
-use lib.ListN.{getD}
-use Rattle.turns.specs.Turn.{Halt, Turned, run, Steps}
+use Rattle.turns.specs.Turn.{run, Steps}
 use Rattle.turns.specs.Chains.{one, more}
-use Rattle.trees.specs.Tree.{Forest, none, elem, Tree, Allowed}
-use Rattle.trees.specs.Signature.{cell, entriesOf, width, entries}
+use Rattle.trees.specs.Tree.{none, elem, Tree, Allowed}
+use Rattle.trees.specs.Signature.{cell, entriesOf, width}
 use Rattle.checking.specs.declared.Kind.{Kind}
 use Rattle.checking.specs.declared.CheckState.{CheckState}
 use Rattle.checking.specs.declared.CheckTurn.{CheckTurn}
-use Rattle.checking.specs.declared.Refusal.{Refusal}
 use Rattle.checking.specs.declared.Stop.{Stop}
 use Rattle.checking.specs.declared.Verdict.{Verdict}
 use Rattle.checking.specs.Rule.{fresh, Ranges, stepOf, closeOf, accepted, nameless, secondRoot, inRange}
@@ -21,7 +19,7 @@ use Rattle.checking.specs.Whole.{WholePromise}
 use Rattle.checking.proofs.Cases.{fresh-ranges}
 use Rattle.checked.specs.Yields.{Words, Yields, Turns}
 use Rattle.checked.specs.Chained.{Fits}
-use Rattle.checked.specs.Wholly.{handed, handed-is, accepted-exactly, check-two-n, whole-exactly, accepted-tree, AcceptedTree, tree-unique, never-refused}
+use Rattle.checked.specs.Wholly.{handed, handed-is, accepted-exactly, check-two-n, whole-exactly, accepted-tree, AcceptedTree, tree-unique}
 use Rattle.checked.specs.Public.{one-result, one-verdict, cut-anywhere, cut-kept, count-unique, stops-before-the-fault, BeforeFault, refused-early, chain-verdict, handed-back-in-range, step-as-written}
 use Rattle.checked.specs.ShutOut.{small, small-words}
 use Rattle.checked.specs.Menus.{ten, wrongPost}

@@ -5,16 +5,12 @@ use mathlib.Core.List.{List, [], _∷_, _++_}
 use lib.ListN.{length, replicate, take}
 use Rattle.trees.specs.Signature.{entries}
 use Rattle.checking.specs.declared.Kind.{Kind}
-use Rattle.checked.specs.Menus.{ten}
+use Rattle.checked.specs.Menus.{ten, five}
 use Rattle.checking.specs.Room.{Left}
 use Rattle.records.specs.Records.{readLeft, writeLeft}
 use Rattle.tag_lists.specs.Readers.{tagsLeft}
 use Rattle.tag_writing.specs.TagsBack.{backLeft}
 use Rattle.worked.specs.Case.{Case}
-
-abbrev five : List ℕ
-five =
-    1 ∷ 5 ∷ 6 ∷ 0 ∷ 1 ∷ 1 ∷ 3 ∷ 1 ∷ 1 ∷ 4 ∷ 6 ∷ 1 ∷ 1 ∷ 2 ∷ 5 ∷ 3 ∷ 1 ∷ 3 ∷ 6 ∷ 3 ∷ []
 
 abbrev tenTags : List ℕ
 tenTags =

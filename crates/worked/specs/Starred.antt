@@ -1,7 +1,6 @@
 -- Document 01's starred cases: one computed statement over one list.
 use mathlib.Core.Path.{_≡_, refl}
-use mathlib.Core.List.{List, [], _∷_, _++_, map, flatMap}
-use Prim.Native.Nat.{ℕ}
+use mathlib.Core.List.{List, _++_, map, flatMap}
 use Rattle.turns.specs.Turn.{run}
 use Rattle.trees.specs.Names.{passes}
 use Rattle.checking.specs.Rule.{stepOf, closeOf, accepted, nameless, secondRoot, inRange}
@@ -26,7 +25,8 @@ use Rattle.preparing.specs.Masks.{every, hasBit, mask, put}
 use Rattle.preparing.specs.Given.{givenOf, ready, begun}
 use Rattle.preparing.specs.Preparing.{childrenIn, stands, canOf, badParent, written, joined, stepTable, prepStep}
 use Rattle.preparing.specs.PrepTurn.{cleared, startFault}
-use Rattle.walking.specs.Walking.{image, place, imageFits, phaseFits, endOf, badEnd, back, found, walkOn}
+use Rattle.walk_ranges.specs.Ranges.{image, place, imageFits, phaseFits}
+use Rattle.walking.specs.Walking.{endOf, badEnd, back, found, walkOn}
 use Rattle.walking.specs.Walking.{inRange as walkRange, stepOf as walkStep}
 use Rattle.ordering.specs.Next.{ranks, tuples, placedTest, laterTest, answerTest, smallerTest, firstOf, nextAnswer}
 use Rattle.ordered.specs.Promise.{allUpTo, tupleFits, orderedOf}
