@@ -1,0 +1,147 @@
+-- A call for ordered or loose answers on bare numbers returns 0 exactly if it worked; a turn, exactly if it was not refused.
+--   ordered-zero    the ordered call
+--   start-zero      the start call of preparing: out is then the fresh state's next entry, and else 0
+--   prepare-zero, walk-zero   the two turns
+--   tarts-zero, tuple-zero-not   2(3,4) on the four entries is answered with 0, but not for a tuple of two numbers
+use Prim.Native.Nat.{ℕ, _*_, _≤_}
+use mathlib.Core.Path.{_≡_, refl}
+use mathlib.Core.Logic.{_↔_}
+use mathlib.Core.Bool.{Bool, true, false}
+use mathlib.Core.List.{List, [], flatMap}
+use native.Mathlib.Omega.{arith}
+use lib.Dec.{eqb, leb}
+use lib.ListN.{length, getD, replicate}
+use Rattle.turns.specs.Pick.{pick}
+use Rattle.turns.specs.Turn.{moved, answered, refused, run}
+use Rattle.trees.specs.Signature.{cell, Entries, entriesOf, width, entries}
+use Rattle.trees.specs.Names.{passes}
+use Rattle.checking.specs.declared.Kind.{Kind}
+use Rattle.checking.specs.Kinds.{most}
+use Rattle.checking.specs.Rule as check
+use Rattle.checking.specs.Rule.{closeOf, accepted, nameless, secondRoot, inRange}
+use Rattle.checking.specs.Turn.{turnWithin, lengthFault}
+use Rattle.checking.specs.Room.{Left, refusedLeft, roomFor}
+use Rattle.checking.specs.Whole.{wholeOf}
+use Rattle.checked.specs.Menus.{tarts, fork}
+use Rattle.ordering.specs.Next.{ranks, tuples, placedTest, laterTest, answerTest, smallerTest, firstOf, nextAnswer}
+use Rattle.ordered.specs.Promise.{allUpTo, tupleFits, orderedOf}
+use Rattle.preparing.specs.Masks.{tableWidth, can, hasBit}
+use Rattle.preparing.specs.Preparing.{Preparing, prepared, badParent, prepStep}
+use Rattle.preparing.specs.PrepTurn.{startFault, prepInRange, prepRun, prepTurnOf, underway}
+use Rattle.walking.specs.declared.Walk.{Walk}
+use Rattle.walking.specs.Walking.{ended, badEnd, endOf, back, found, readied, walkOn, stepOf}
+use Rattle.walking.specs.WalkTurn.{walkFits, walkRun, walkTurnOf}
+use Rattle.calls_told.specs.Numbered.{ZeroAnswer, NumberedStep, some-number, halt-zero, turn-numbered, begun-numbered, by-check, refused-zero, room-zero, left-returns, turn-returns}
+use Rattle.walk_numbers.specs.Walk.{walkOf}
+use Rattle.twig_calls.specs.Ordered.{OrderedNumbers}
+use Rattle.twig_calls.specs.Prepare.{StartNumbers, PrepareTurnPromise}
+use Rattle.twig_calls.specs.Walk.{WalkTurnPromise}
+
+-- ---- the ordered call
+
+module _ (s w g room : List ℕ) where
+  -- the smallest ordered answer greater than the tuple
+  abbrev answer : List ℕ
+  answer = nextAnswer (entries s) (entriesOf width s) (entries w) (entriesOf width w) g
+
+  -- where both trees are accepted
+  tuple-zero : ZeroAnswer (pick (tupleFits (entries s) (entries w) g) (roomFor room answer) (refusedLeft room 8 0) .answer)
+  tuple-zero = by (tupleFits (entries s) (entries w) g)
+    where
+      by : (c : Bool) → ZeroAnswer (pick c (roomFor room answer) (refusedLeft room 8 0) .answer)
+      by true = room-zero room answer
+      by false = refused-zero 8 (omega arith)
+
+  pub ordered-zero : (r : ℕ) (after out : List ℕ) → OrderedNumbers s w g room r after out → (r ≡ 0) ↔ (orderedOf s w g room .answer .refused ≡ 0)
+  unfolding orderedOf
+  ordered-zero r after out p =
+      left-returns (orderedOf s w g room) r after out
+      (by-check Kind.Twig w (λ (x : Left). ZeroAnswer (x .answer)) _ (refusedLeft room (wholeOf Kind.Twig w .number) (wholeOf Kind.Twig w .entry))
+      (by-check Kind.Data s (λ (x : Left). ZeroAnswer (x .answer)) _ (refusedLeft room (wholeOf Kind.Data s .number) (wholeOf Kind.Data s .entry))
+      tuple-zero (λ l. refused-zero _ l))
+      (λ l. refused-zero _ l)) p
+
+-- ---- preparing
+
+pub start-zero : (n : ℕ) (table : List ℕ) (r : ℕ) (after out : List ℕ) → StartNumbers n table r after out → (r ≡ 0) ↔ (1 ≤ getD out 0 0)
+unfolding startFault
+start-zero n table r after out p =
+    rw (p .says .number-is, p .says .out-is) (by (eqb n 0) (leb n (most Kind.Data)) (leb (tableWidth * n) (length table)) refl)
+  where
+    fault : Bool → Bool → Bool → ℕ
+    fault a b c = pick a 1 (pick b (pick c 0 10) 7)
+
+    by : (a b c : Bool) → eqb n 0 ≡ a → (fault a b c ≡ 0) ↔ (1 ≤ pick (eqb (fault a b c) 0) n 0)
+    by true b c q = (λ z. absurd (omega arith), λ z. absurd (omega arith))
+    by false false c q = (λ z. absurd (omega arith), λ z. absurd (omega arith))
+    by false true false q = (λ z. absurd (omega arith), λ z. absurd (omega arith))
+    by false true true q = (λ z. some-number n q, λ z. refl)
+
+prep-numbered : (e w : Entries) (m : ℕ) (st : Preparing) → NumberedStep (prepStep e w m st)
+unfolding prepStep
+prep-numbered e w m st = by (badParent e (st .next)) _
+  where
+    by : (c : Bool) (to : Preparing) → NumberedStep (pick c (refused 11 0) (moved to))
+    by true to = omega arith
+    by false to = tt
+
+pub prepare-zero : (sig twig table l : List ℕ) (b r : ℕ) (after state out : List ℕ) → PrepareTurnPromise sig twig table l b r after state out
+    → (r ≡ 0) ↔ (getD out 0 0 ≡ 3 → ⊥)
+prepare-zero sig twig table l b r after state out p =
+    let st = underway (getD l 0 0) table in
+    turn-returns _ _ r out
+    (halt-zero (prepTurnOf sig twig b st .halt)
+    (begun-numbered sig twig (length table) st (prepInRange (entries sig) st) (prepRun sig twig b st)
+    (turn-numbered Preparing prepared (prepStep (entriesOf width sig) (entriesOf width twig) (entries twig))
+    (prep-numbered (entriesOf width sig) (entriesOf width twig) (entries twig)) b st)))
+    (p .says)
+
+-- ---- walking
+
+walk-numbered : (n m : ℕ) (e t : Entries) (bits : ℕ → ℕ) (w : Walk) → NumberedStep (stepOf n m e t bits w)
+unfolding stepOf walkOn back found
+walk-numbered n m e t bits w =
+    let v = readied w in
+    by (badEnd n e t w) (leb (endOf n e t v) (v .candidate .0)) (hasBit (bits (v .candidate .0)) (v .node)) (leb (v .node) 1) (eqb (v .node) m) _ _ _ _ _
+  where
+    by : (a b c d f : Bool) (u v x y z : Walk)
+        → NumberedStep (pick a (refused 11 0) (pick b (pick d (moved u) (moved v)) (pick c (pick f (answered x) (moved y)) (moved z))))
+    by true b c d f u v x y z = omega arith
+    by false true c true f u v x y z = tt
+    by false true c false f u v x y z = tt
+    by false false true d true u v x y z = tt
+    by false false true d false u v x y z = tt
+    by false false false d f u v x y z = tt
+
+pub walk-zero : (sig twig table l : List ℕ) (b r : ℕ) (state out : List ℕ) → WalkTurnPromise sig twig table l b r state out
+    → (r ≡ 0) ↔ (getD out 0 0 ≡ 3 → ⊥)
+walk-zero sig twig table l b r state out p =
+    let w = walkOf l in
+    turn-returns _ _ r out
+    (halt-zero (walkTurnOf sig twig table b w .halt)
+    (begun-numbered sig twig (length table) w (walkFits sig twig w) (walkRun sig twig table b w)
+    (turn-numbered Walk ended (stepOf (entries sig) (entries twig) (entriesOf width sig) (entriesOf width twig) (can table))
+    (walk-numbered (entries sig) (entries twig) (entriesOf width sig) (entriesOf width twig) (can table)) b w)))
+    (p .says)
+
+-- ---- used once: the four entries and the twig 2(3,4)
+
+-- whether the ordered call refuses a tuple, with no room lent
+abbrev tarts-refused : List ℕ → ℕ
+tarts-refused g = orderedOf tarts (fork 2 3 4) g [] .answer .refused
+
+tarts-works : tarts-refused (replicate 3 0) ≡ 0
+unfolding run turnWithin lengthFault inRange check.stepOf closeOf nameless secondRoot accepted cell passes roomFor
+    ranks tuples placedTest laterTest answerTest smallerTest firstOf nextAnswer flatMap allUpTo tupleFits orderedOf
+tarts-works = refl
+
+pub tarts-zero : (r : ℕ) (after out : List ℕ) → OrderedNumbers tarts (fork 2 3 4) (replicate 3 0) [] r after out → r ≡ 0
+tarts-zero r after out p = ordered-zero tarts (fork 2 3 4) (replicate 3 0) [] r after out p .1 tarts-works
+
+tuple-short : tarts-refused (replicate 2 0) ≡ 1
+unfolding run turnWithin lengthFault inRange check.stepOf closeOf nameless secondRoot accepted cell allUpTo tupleFits orderedOf
+tuple-short = refl
+
+pub tuple-zero-not : (r : ℕ) (after out : List ℕ) → OrderedNumbers tarts (fork 2 3 4) (replicate 2 0) [] r after out → r ≡ 0 → ⊥
+tuple-zero-not r after out p z =
+    let q : tarts-refused (replicate 2 0) ≡ 0 = ordered-zero tarts (fork 2 3 4) (replicate 2 0) [] r after out p .0 z in omega (arith, tuple-short)
