@@ -65,11 +65,11 @@ typedef struct {
 extern const Row rows[];
 extern const int row_count;
 
-/* Everything that the rows read, for trees of n elements: an uneven and an even menu and a chain; the uneven menu as tags and as records; every rank as a
- * context; and two twigs of sixteen nodes, a root with fifteen children and a chain whose last name no element has. */
+/* Everything that the rows read, for trees of n elements: an uneven, an even and a broad menu and a chain; the uneven menu as tags and as records; every
+ * rank as a context; and two twigs of sixteen nodes, a root with fifteen children and a chain whose last name no element has. */
 typedef struct {
     int n;
-    u16 menu[4 * MOST_DATA], even[4 * MOST_DATA], chain[4 * MOST_DATA];
+    u16 menu[4 * MOST_DATA], even[4 * MOST_DATA], broad[4 * MOST_DATA], chain[4 * MOST_DATA];
     u8 tags[6 * MOST_DATA], records[10 * MOST_DATA];
     u16 everyone[MOST_DATA];
     u16 wide[4 * MOST_TWIG], deep[4 * MOST_TWIG];

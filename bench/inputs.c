@@ -14,26 +14,30 @@ static u32 below_number(u32 bound)
     return (u32)((z ^ (z >> 31)) % bound);
 }
 
+typedef enum { UNEVEN, EVEN, BROAD } Shape;
+
 /* Whether an element closes before element i opens. On the uneven menu that is chance, to at most twelve levels, and no processor foresees it; on the even
- * one every course has three dishes of one part each. */
-static int is_closing(int is_even, int i, int open)
+ * one every course has three dishes of one part each; on the broad one every child of the root has one child. */
+static int is_closing(Shape shape, int i, int open)
 {
     if (open <= 1)
         return 0;
-    if (is_even)
+    if (shape == EVEN)
         return open >= ((i - 1) % 7 == 0 ? 2 : (i - 1) % 7 % 2 ? 3 : 4);
+    if (shape == BROAD)
+        return open > 2 - i % 2;
     return open == 12 || below_number(5) < 2;
 }
 
 /* The tag list of a menu with sixteen names; the last element alone has the name 999. */
-static size_t make_menu_tags(u8 *to, int is_even)
+static size_t make_menu_tags(u8 *to, Shape shape)
 {
     size_t at = 0;
     int open = 0;
     random_state = 2009;
     for (int i = 0; i < inputs.n; i++) {
         u16 name = (u16)(i == inputs.n - 1 ? 999 : i == 0 ? 17 : 1 + below_number(16));
-        while (is_closing(is_even, i, open)) {
+        while (is_closing(shape, i, open)) {
             to[at++] = 'C';
             to[at++] = 'L';
             open--;
@@ -77,8 +81,9 @@ void make_inputs(int size)
 {
     u64 out[2];
     inputs.n = size;
-    plain.tags_to_signature(IB_DATA, inputs.tags, make_menu_tags(inputs.tags, 1), inputs.even, 4 * MOST_DATA, out);
-    plain.tags_to_signature(IB_DATA, inputs.tags, make_menu_tags(inputs.tags, 0), inputs.menu, 4 * MOST_DATA, out);
+    plain.tags_to_signature(IB_DATA, inputs.tags, make_menu_tags(inputs.tags, EVEN), inputs.even, 4 * MOST_DATA, out);
+    plain.tags_to_signature(IB_DATA, inputs.tags, make_menu_tags(inputs.tags, BROAD), inputs.broad, 4 * MOST_DATA, out);
+    plain.tags_to_signature(IB_DATA, inputs.tags, make_menu_tags(inputs.tags, UNEVEN), inputs.menu, 4 * MOST_DATA, out);
     plain.write_records(inputs.menu, 4 * (size_t)inputs.n, inputs.records, sizeof inputs.records, out);
     make_chain(inputs.chain, inputs.n, 1);
     make_chain(inputs.deep, MOST_TWIG, 2);

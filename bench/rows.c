@@ -116,27 +116,32 @@ static void one_call(Left *left, u16 number, const void *out, size_t out_size, c
     add(left, from, size);
 }
 
-static void axis_of(const Calls *with, const u16 *contexts, size_t count, int axis, u16 position, Left *left)
+static void axis_of(const Calls *with, const u16 *sig, const u16 *contexts, size_t count, int axis, u16 position, Left *left)
 {
     u64 out[2];
-    u16 number = with->axis(inputs.menu, 4 * (size_t)inputs.n, contexts, count, (u16)axis, 0, position, room, MOST_DATA, out);
+    u16 number = with->axis(sig, 4 * (size_t)inputs.n, contexts, count, (u16)axis, 0, position, room, MOST_DATA, out);
     one_call(left, number, out, sizeof out, room, 2 * (size_t)inputs.n);
 }
 
 static void axis_one(const Calls *with, int axis, Left *left)
 {
     u16 middle[1] = {(u16)(inputs.n / 2)};
-    axis_of(with, middle, 1, axis, 0, left);
+    axis_of(with, inputs.menu, middle, 1, axis, 0, left);
 }
 
 static void axis_all(const Calls *with, int axis, Left *left)
 {
-    axis_of(with, inputs.everyone, (size_t)inputs.n, axis, 0, left);
+    axis_of(with, inputs.menu, inputs.everyone, (size_t)inputs.n, axis, 0, left);
 }
 
 static void axis_second(const Calls *with, int axis, Left *left)
 {
-    axis_of(with, inputs.everyone, (size_t)inputs.n, axis, 2, left);
+    axis_of(with, inputs.menu, inputs.everyone, (size_t)inputs.n, axis, 2, left);
+}
+
+static void axis_second_broad(const Calls *with, int axis, Left *left)
+{
+    axis_of(with, inputs.broad, inputs.everyone, (size_t)inputs.n, axis, 2, left);
 }
 
 static void ordered_chain(const Calls *with, int unused, Left *left)
@@ -245,8 +250,19 @@ const Row rows[] = {
     {"preceding, all contexts", "call", axis_all, IB_PRECEDING, 0},
     {"following-sibling, all contexts", "call", axis_all, IB_FOLLOWING_SIBLING, 0},
     {"preceding-sibling, all contexts", "call", axis_all, IB_PRECEDING_SIBLING, 1},
+    {"self, second, all contexts", "call", axis_second, IB_SELF, 0},
     {"child, second, all contexts", "call", axis_second, IB_CHILD, 0},
+    {"descendant, second, all contexts", "call", axis_second, IB_DESCENDANT, 0},
+    {"descendant-or-self, second, all contexts", "call", axis_second, IB_DESCENDANT_OR_SELF, 0},
+    {"parent, second, all contexts", "call", axis_second, IB_PARENT, 0},
+    {"ancestor, second, all contexts", "call", axis_second, IB_ANCESTOR, 0},
+    {"ancestor-or-self, second, all contexts", "call", axis_second, IB_ANCESTOR_OR_SELF, 0},
     {"following, second, all contexts", "call", axis_second, IB_FOLLOWING, 0},
+    {"preceding, second, all contexts", "call", axis_second, IB_PRECEDING, 0},
+    {"following-sibling, second, all contexts", "call", axis_second, IB_FOLLOWING_SIBLING, 0},
+    {"preceding-sibling, second, all contexts", "call", axis_second, IB_PRECEDING_SIBLING, 0},
+    {"ancestor, second, wide tree", "call", axis_second_broad, IB_ANCESTOR, 1},
+    {"ancestor-or-self, second, wide tree", "call", axis_second_broad, IB_ANCESTOR_OR_SELF, 0},
 };
 
 const int row_count = sizeof rows / sizeof rows[0];
