@@ -5,7 +5,7 @@ use checking::PreRank;
 use checking::Refusal;
 use checking::Verdict;
 use checking::check_whole;
-use checking::entry_number;
+use entries::entry_number;
 ghost use mathlib.Core.Path.{_≡_};
 ghost use Prim.Native.Nat.{_≤_};
 ghost use Rattle.trees.specs.Signature.{entriesOf, width, entries};

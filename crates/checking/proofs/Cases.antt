@@ -5,18 +5,15 @@
 --   accepted-…     the end
 --   range-…        the ranges of a saved state; fresh-ranges
 --   entry-ends     where an entry ends
---   number-…       a number past the end, and of entry 0
 use Prim.Native.Nat.{ℕ, zero, suc, _+_, _-_, _*_, _≤_, _<_}
 use native.Mathlib.Nat.{not-suc-le-zero, mul-suc}
 use native.Mathlib.Omega.{arith}
-use mathlib.Core.Path.{_≡_, refl, ap, sym, _∙_}
-use mathlib.Core.List.{List}
-use lib.ListN.{length, getD, List·getD-eq-default}
+use mathlib.Core.Path.{_≡_, refl, ap, _∙_}
 use mathlib.Core.Bool.{Bool, true, false, not, _&&_, and-false, false≢true}
 use lib.Dec.{ltb, leb, eqb}
 use borrow.Author.Tests.{lt-ltb, le-ltb, le-leb, lt-leb, eq-eqb, ne-eqb, ltb-true, leb-true}
 use Rattle.turns.specs.Turn.{Next, moved, refused}
-use Rattle.trees.specs.Signature.{Entries, cell, width}
+use Rattle.trees.specs.Signature.{Entries}
 use Rattle.checking.specs.declared.CheckState.{CheckState}
 use Rattle.checking.specs.Rule.{closeOf, closedOf, openOf, stepOf, nameless, secondRoot, accepted, Ranges, inRange, fresh}
 
@@ -150,12 +147,3 @@ fresh-ranges n = record { some = omega arith; last = omega arith; top = omega ar
 pub entry-ends : (w i : ℕ) → 1 ≤ i → w * i ≡ w * (i - 1) + w
 entry-ends w zero h = absurd (not-suc-le-zero h)
 entry-ends w (suc i) h = mul-suc w i ∙ ap (λ (x : ℕ). w * x + w) (omega arith)
-
--- past the end a number is 0
-pub number-past : (s : List ℕ) (at : ℕ) → length s ≤ at → 0 ≡ getD s at 0
-number-past s at h = sym (List·getD-eq-default s 0 {n = at} h)
-
--- entry 0 reads like entry 1
-pub number-first : (s : List ℕ) (i k : ℕ) → i ≡ 0 → getD s k 0 ≡ cell width s i k
-unfolding cell
-number-first s i k h = ap (λ (x : ℕ). getD s x 0) (omega arith)

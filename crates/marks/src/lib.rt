@@ -3,7 +3,7 @@ use checking::NO_ROOM;
 use checking::PreRank;
 use checking::Refusal;
 use checking::Written;
-use checking::entry_number;
+use entries::entry_number;
 ghost use mathlib.Core.Path.{_≡_};
 ghost use mathlib.Core.Bool.{true, _&&_};
 ghost use Prim.Native.Nat.{_≤_};

@@ -41,7 +41,7 @@ fn is_ending(sig: &[u16], next: u16, top: u16) -> bool
     if top == 0 {
         return false;
     }
-    if checking::entry_number(sig, PreRank(top), 2) == next {
+    if entries::entry_number(sig, PreRank(top), 2) == next {
         true
     } else {
         false
@@ -61,12 +61,12 @@ fn write_tags(sig: &[u16], count: u16, room: &mut [u8])
         let next = opened + 1;
         if is_ending(sig, next, top) {
             put_close(room, at);
-            let up = checking::entry_number(sig, PreRank(top), 3);
+            let up = entries::entry_number(sig, PreRank(top), 3);
             closed += 1;
             top = up;
             at += 2;
         } else {
-            let name = checking::entry_number(sig, PreRank(next), 0);
+            let name = entries::entry_number(sig, PreRank(next), 0);
             put_open(room, at, name);
             opened = next;
             top = next;

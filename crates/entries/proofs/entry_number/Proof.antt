@@ -1,11 +1,11 @@
 -- An entry's place is four numbers for each entry before it; rank 0 reads like rank 1.
 use mathlib.Core.Path.{_∙_}
 use Rattle.trees.specs.Signature.{cell}
-use Rattle.checking.proofs.Cases.{number-first}
+use Rattle.entries.proofs.Numbers.{number-first}
 use native.Mathlib.Omega.{arith}
 use borrow.Author.Needs.{needs}
-use Rattle.checking.proofs.entry_number.Statement.{statement}
-use Rattle.checking.proofs.entry_number.Tie as tie
+use Rattle.entries.proofs.entry_number.Statement.{statement}
+use Rattle.entries.proofs.entry_number.Tie as tie
 
 cast-rank : tie.Need-cast-rank
 cast-rank c = search needs

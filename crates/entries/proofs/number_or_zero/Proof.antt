@@ -1,9 +1,9 @@
 -- Past the end of a list its default stands.
-use Rattle.checking.proofs.Cases.{number-past}
+use Rattle.entries.proofs.Numbers.{number-past}
 use native.Mathlib.Omega.{arith}
 use borrow.Author.Needs.{needs}
-use Rattle.checking.proofs.number_or_zero.Statement.{statement}
-use Rattle.checking.proofs.number_or_zero.Tie as tie
+use Rattle.entries.proofs.number_or_zero.Statement.{statement}
+use Rattle.entries.proofs.number_or_zero.Tie as tie
 
 mul-result : tie.Need-mul-result
 mul-result c = search needs

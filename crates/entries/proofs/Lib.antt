@@ -1,0 +1,2 @@
+-- Laws of the numbers of an entry.
+pub mod Numbers
