@@ -29,8 +29,7 @@ use Rattle.checking.specs.Stops.{Told, haltTold, Answered}
 use Rattle.checking.specs.Room.{Left, writtenLeft, refusedLeft, roomFor, leftBy}
 use Rattle.checking.specs.Whole.{wholeOf}
 use Rattle.checking.proofs.Runs.{whole-stops}
-use Rattle.preparing.specs.Given.{lengthTold, givenOf, refusedFor, ready, begun}
-use Rattle.preparing.specs.Masks.{tableWidth}
+use Rattle.twig_turns.specs.Given.{lengthTold, givenOf, refusedFor, ready, begun, tableWidth}
 use Rattle.telling.specs.Numbers.{TurnTold, LeftNumbers}
 
 -- "A refused turn returns its number", any other turn 0

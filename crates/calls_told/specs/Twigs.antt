@@ -25,7 +25,8 @@ use Rattle.checking.specs.Whole.{wholeOf}
 use Rattle.checked.specs.Menus.{tarts, fork}
 use Rattle.ordering.specs.Next.{ranks, tuples, placedTest, laterTest, answerTest, smallerTest, firstOf, nextAnswer}
 use Rattle.ordered.specs.Promise.{allUpTo, tupleFits, orderedOf}
-use Rattle.preparing.specs.Masks.{tableWidth, can, hasBit}
+use Rattle.preparing.specs.Masks.{can, hasBit}
+use Rattle.twig_turns.specs.Given.{tableWidth}
 use Rattle.preparing.specs.Preparing.{Preparing, prepared, badParent, prepStep}
 use Rattle.preparing.specs.PrepTurn.{startFault, prepInRange, prepRun, prepTurnOf, underway}
 use Rattle.walking.specs.declared.Walk.{Walk}

@@ -25,7 +25,7 @@ use Rattle.preparing.specs.declared.Started.{Started}
 use Rattle.walking.specs.declared.Walk.{Walk}
 use Rattle.walking.specs.declared.WalkTurn.{WalkTurn}
 use Rattle.preparing.specs.Masks.{every, hasBit, mask, put}
-use Rattle.preparing.specs.Given.{givenOf, ready, begun}
+use Rattle.twig_turns.specs.Given.{givenOf, ready, begun}
 use Rattle.preparing.specs.Preparing.{Preparing, childrenIn, stands, canOf, badParent, written, joined, stepTable, prepStep}
 use Rattle.preparing.specs.PrepTurn.{cleared, startFault, StartPromise, prepAt, PrepHanded}
 use Rattle.walking.specs.WalkTurn.{WalkHanded}

@@ -25,7 +25,7 @@ use Rattle.preparing.specs.declared.Started.{Started}
 use Rattle.walking.specs.declared.Walk.{Walk}
 use Rattle.walking.specs.declared.WalkTurn.{WalkTurn}
 use Rattle.preparing.specs.Masks.{can}
-use Rattle.preparing.specs.Given.{givenOf}
+use Rattle.twig_turns.specs.Given.{givenOf}
 use Rattle.preparing.specs.Preparing.{Preparing, prepared, prepStep}
 use Rattle.preparing.specs.PrepTurn.{StartPromise, preparing, prepInRange, prepRunOf, PrepHanded, PrepPromise}
 use Rattle.walking.specs.Walking.{inRange, stepOf, ended, fresh}

@@ -11,7 +11,7 @@ use Rattle.turns.specs.Turn.{Turned, Outcome}
 use Rattle.turns.specs.Demand.{Faithful}
 use Rattle.trees.specs.Signature.{entriesOf, width, entries}
 use Rattle.preparing.specs.Masks.{can}
-use Rattle.preparing.specs.Given.{givenOf}
+use Rattle.twig_turns.specs.Given.{givenOf}
 use Rattle.preparing.specs.Preparing.{Preparing, prepared, prepStep}
 use Rattle.preparing.specs.PrepTurn.{prepAt}
 use Rattle.walking.specs.declared.Walk.{Walk}

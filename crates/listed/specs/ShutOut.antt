@@ -25,7 +25,7 @@ use Rattle.walking.specs.declared.Walk.{Walk}
 use Rattle.walking.specs.declared.WalkTurn.{WalkTurn}
 use Rattle.preparing.specs.declared.Prep.{Prep}
 use Rattle.preparing.specs.Masks.{every, hasBit, mask, put, can}
-use Rattle.preparing.specs.Given.{givenOf}
+use Rattle.twig_turns.specs.Given.{givenOf}
 use Rattle.preparing.specs.Preparing.{Preparing, childrenIn, stands, canOf, badParent, written, joined, stepTable, prepStep}
 use Rattle.preparing.specs.PrepTurn.{cleared, prepAt, prepRunOf}
 use Rattle.walk_ranges.specs.Ranges.{image, place, imageFits, phaseFits}

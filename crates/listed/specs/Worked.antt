@@ -25,7 +25,7 @@ use Rattle.checking.specs.Turn.{turnWithin, lengthFault}
 use Rattle.walk_ranges.specs.declared.Phase.{Phase}
 use Rattle.walking.specs.declared.WalkTurn.{WalkTurn}
 use Rattle.preparing.specs.Masks.{every, hasBit, can}
-use Rattle.preparing.specs.Given.{givenOf, ready, begun}
+use Rattle.twig_turns.specs.Given.{givenOf, ready, begun}
 use Rattle.preparing.specs.PrepTurn.{prepAt}
 use Rattle.walk_ranges.specs.Ranges.{image, place, imageFits, phaseFits}
 use Rattle.walking.specs.Walking.{at, fresh, inRange, endOf, badEnd, back, found, walkOn, stepOf}

@@ -24,7 +24,7 @@ use Rattle.tag_scan.specs.TagLists.{treeScan, numbersIn}
 use Rattle.retold.specs.Taken.{Bytes}
 use Rattle.retold.specs.Sound.{scan-sound}
 use Rattle.preparing.specs.declared.Started.{Started}
-use Rattle.preparing.specs.Masks.{tableWidth}
+use Rattle.twig_turns.specs.Given.{tableWidth}
 use Rattle.preparing.specs.Preparing.{Preparing}
 use Rattle.preparing.specs.PrepTurn.{cleared, startFault, StartPromise, prepAt, underway, prepTurnOf}
 use Rattle.listed.specs.Questions.{Accepted, Prepared}

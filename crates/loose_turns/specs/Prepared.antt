@@ -27,11 +27,10 @@ use Rattle.checked.specs.Apart.{haltOf, told-apart, told-halt, halt-told}
 use Rattle.preparing.specs.declared.Prep.{Prep}
 use Rattle.preparing.specs.declared.PrepTurn.{PrepTurn}
 use Rattle.preparing.specs.declared.Started.{Started}
-use Rattle.preparing.specs.Masks.{tableWidth}
-use Rattle.preparing.specs.Given.{givenOf, begun, refusedFor}
+use Rattle.twig_turns.specs.Given.{givenOf, begun, refusedFor, tableWidth}
 use Rattle.preparing.specs.Preparing.{Preparing, prepared, prepStep, badParent, stepTable}
 use Rattle.preparing.specs.PrepTurn.{cleared, startFault, startTold, Fresh, StartPromise, preparing, prepInRange, prepRun, prepTurnOf, PrepHanded, PrepPromise}
-use Rattle.preparing.proofs.Judged.{begun-run, begun-ready, ready-state, ready-room}
+use Rattle.twig_turns.proofs.Judged.{begun-run, begun-ready, ready-state, ready-room}
 use Rattle.preparing.proofs.PrepCases.{table-length, start-empty}
 use Rattle.loose_turns.specs.Judging as Judging
 

@@ -17,7 +17,7 @@ use Rattle.checking.specs.Turn.{turnWithin, lengthFault}
 use Rattle.checked.specs.Menus.{five, pair}
 use Rattle.preparing.specs.declared.PrepTurn.{PrepTurn}
 use Rattle.preparing.specs.Masks.{every}
-use Rattle.preparing.specs.Given.{givenOf}
+use Rattle.twig_turns.specs.Given.{givenOf}
 use Rattle.preparing.specs.Preparing.{Preparing, prepared}
 use Rattle.preparing.specs.PrepTurn.{PrepPromise, prepAt, preparing}
 use Rattle.walking.specs.declared.Walk.{Walk}

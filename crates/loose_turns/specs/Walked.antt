@@ -22,12 +22,12 @@ use Rattle.checking.specs.Stops.{haltTold}
 use Rattle.checked.specs.Apart.{haltOf, told-apart, told-halt, halt-told}
 use Rattle.walking.specs.declared.Walk.{Walk}
 use Rattle.walking.specs.declared.WalkTurn.{WalkTurn}
-use Rattle.preparing.specs.Masks.{tableWidth, can}
-use Rattle.preparing.specs.Given.{givenOf}
+use Rattle.preparing.specs.Masks.{can}
+use Rattle.twig_turns.specs.Given.{givenOf, tableWidth}
 use Rattle.walking.specs.Kept.{Ranges}
 use Rattle.walking.specs.Walking.{stepOf, ended}
 use Rattle.walking.specs.WalkTurn.{walkRun, walkFits, walkTurnOf, WalkHanded, WalkPromise}
-use Rattle.preparing.proofs.Judged.{given-twig, begun-run, begun-ready, ready-state, ready-room}
+use Rattle.twig_turns.proofs.Judged.{given-twig, begun-run, begun-ready, ready-state, ready-room}
 use Rattle.walking.proofs.Parents.{given-parents}
 use Rattle.walking.proofs.WalkRanges.{range-facts, range-yes}
 use Rattle.walking.proofs.WalkSteps.{step-moved, step-answered}

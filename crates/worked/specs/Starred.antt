@@ -22,7 +22,7 @@ use Rattle.worked.specs.Check as Check
 use Rattle.worked.specs.Axes as Axes
 use Rattle.worked.specs.Records as Records
 use Rattle.preparing.specs.Masks.{every, hasBit, mask, put}
-use Rattle.preparing.specs.Given.{givenOf, ready, begun}
+use Rattle.twig_turns.specs.Given.{givenOf, ready, begun}
 use Rattle.preparing.specs.Preparing.{childrenIn, stands, canOf, badParent, written, joined, stepTable, prepStep}
 use Rattle.preparing.specs.PrepTurn.{cleared, startFault}
 use Rattle.walk_ranges.specs.Ranges.{image, place, imageFits, phaseFits}
