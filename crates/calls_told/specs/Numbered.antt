@@ -7,8 +7,9 @@
 --   by-check                   what holds where the whole check accepts, and at each refusal with a number, holds of what is told after the check
 --   refused-zero, room-zero, left-zero   the answers of calls that write into lent room
 --   left-returns, turn-returns   so the number returned is 0 exactly if the call worked, or if the turn was not refused
+--   stop-first                 out begins with what stopped the turn
 use Prim.Native.Nat.{ℕ, zero, suc, _+_, _-_, _*_, _≤_}
-use mathlib.Core.Path.{_≡_, refl, subst}
+use mathlib.Core.Path.{_≡_, refl, ap, subst}
 use mathlib.Core.Logic.{_⊎_, inl, inr, _↔_}
 use mathlib.Core.Bool.{Bool, true, false}
 use mathlib.Core.List.{List}
@@ -217,3 +218,6 @@ left-returns x r after out z p = rw (p .says .number-is) z
 -- out begins with what stopped the turn, 3 for a refusal
 pub turn-returns : (t : Told) (k r : ℕ) (out : List ℕ) → ZeroStop t → TurnTold t k r out → (r ≡ 0) ↔ (getD out 0 0 ≡ 3 → ⊥)
 turn-returns t k r out z p = rw (p .number-is, p .out-is) z
+
+pub stop-first : (t : Told) (k r : ℕ) (out : List ℕ) → TurnTold t k r out → getD out 0 0 ≡ t .reason
+stop-first t k r out p = ap (λ (o : List ℕ). getD o 0 0) (p .out-is)

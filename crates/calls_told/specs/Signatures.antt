@@ -1,30 +1,36 @@
 -- A call for the check, a level, a block or an axis on bare numbers returns 0 exactly if it worked; a turn, exactly if it was not refused.
 --   check-zero, level-zero, place-zero, axis-zero   the four calls
 --   ten-zero, wrong-zero    the level of entry 8 of Ten is returned with 0, and no level of a signature that is refused
+--   block-zero, child-zero  and so are the place of its block, and the children of entry 2
+--   ended-zero, fault-zero  twenty steps of the check on Ten return 0, and three on the signature that is refused do not
 use Prim.Native.Nat.{ℕ}
-use mathlib.Core.Path.{_≡_, refl}
+use mathlib.Core.Path.{_≡_, refl, _∙_}
 use mathlib.Core.Logic.{_↔_}
 use mathlib.Core.Bool.{Bool, true, false}
-use mathlib.Core.List.{List}
+use mathlib.Core.List.{List, [], _∷_}
 use native.Mathlib.Omega.{arith}
-use lib.ListN.{getD}
+use lib.ListN.{getD, replicate}
 use Rattle.turns.specs.Pick.{pick}
-use Rattle.turns.specs.Turn.{run}
+use Rattle.turns.specs.Turn.{Turned, run}
 use Rattle.trees.specs.Signature.{cell, entriesOf, width, entries}
+use Rattle.trees.specs.Names.{passes}
 use Rattle.checking.specs.declared.Kind.{Kind}
+use Rattle.checking.specs.declared.CheckState.{CheckState}
 use Rattle.checking.specs.Rule.{stepOf, closeOf, accepted, nameless, secondRoot, inRange}
 use Rattle.checking.specs.Turn.{turnOf, turnWithin, lengthFault}
+use Rattle.checking.specs.Stops.{haltTold}
 use Rattle.checking.specs.Room.{Left, refusedLeft, roomFor}
 use Rattle.checking.specs.Whole.{wholeOf}
 use Rattle.checked.specs.Menus.{ten, wrongPost}
-use Rattle.xpath.specs.Axes.{levelOf}
+use Rattle.xpath.specs.Select.{upTo, some, rises, within}
+use Rattle.xpath.specs.Axes.{levelOf, met, parentOf, ancestorOrSelf, wholeBefore, siblingBefore, onAxis, chosen, pth, kept}
 use Rattle.blocks.specs.Checked.{afterCheck, isRank}
 use Rattle.blocks.specs.Level.{Leveled, levelWorked, levelRefused, levelWithin, levelAnswer}
 use Rattle.blocks.specs.Block.{Placed, blockPlace, placeRefused, placeWithin, placeAnswer}
 use Rattle.marks.specs.Axis.{argumentsFine, answerIn, axisWithin, axisAnswer}
 use Rattle.telling.specs.Numbers.{kindOf}
 use Rattle.telling.specs.States.{checkStateOf}
-use Rattle.calls_told.specs.Numbered.{ZeroAnswer, halt-zero, check-numbered, by-check, refused-zero, room-zero, left-returns, turn-returns}
+use Rattle.calls_told.specs.Numbered.{ZeroAnswer, halt-zero, check-numbered, by-check, refused-zero, room-zero, left-returns, turn-returns, stop-first}
 use Rattle.signature_calls.specs.Check.{CheckTurnPromise}
 use Rattle.signature_calls.specs.Axes.{LevelNumbers, PlaceNumbers, AxisNumbers}
 
@@ -108,3 +114,43 @@ wrong-refused = refl
 
 pub wrong-zero : (r : ℕ) (out : List ℕ) → LevelNumbers wrongPost 1 r out → r ≡ 0 → ⊥
 wrong-zero r out p z = let q : levelAnswer wrongPost 1 .refused ≡ 0 = level-zero wrongPost 1 r out p .0 z in omega (arith, wrong-refused)
+
+block-works : placeAnswer ten 8 .refused ≡ 0
+unfolding afterCheck placeWithin isRank run turnWithin lengthFault inRange stepOf closeOf nameless secondRoot accepted cell
+block-works = refl
+
+pub block-zero : (r : ℕ) (out : List ℕ) → PlaceNumbers ten 8 r out → r ≡ 0
+block-zero r out p = place-zero ten 8 r out p .1 block-works
+
+-- "child of 2 is 3, 6", into a room of two numbers
+child-works : axisAnswer ten (2 ∷ []) 1 0 0 (replicate 2 0) .answer .refused ≡ 0
+unfolding run turnWithin lengthFault inRange stepOf closeOf nameless secondRoot accepted cell passes upTo some rises within met parentOf ancestorOrSelf
+    wholeBefore siblingBefore onAxis chosen pth kept afterCheck argumentsFine roomFor axisWithin
+child-works = refl
+
+pub child-zero : (r : ℕ) (after out : List ℕ) → AxisNumbers ten (2 ∷ []) 1 0 0 (replicate 2 0) r after out → r ≡ 0
+child-zero r after out p = axis-zero ten (2 ∷ []) 1 0 0 (replicate 2 0) r after out p .1 child-works
+
+-- a turn of the check from the fresh state, as its numbers are lent
+abbrev freshly : List ℕ → ℕ → Turned CheckState
+freshly s b = turnOf (kindOf 0) s b (checkStateOf (1 ∷ 0 ∷ 0 ∷ []))
+
+-- "Accepted in 20 steps."
+ten-ends : haltTold (freshly ten 20 .halt) .reason ≡ 1
+unfolding run turnWithin lengthFault inRange stepOf closeOf nameless secondRoot accepted cell
+ten-ends = refl
+
+pub ended-zero : (r : ℕ) (left out : List ℕ) → CheckTurnPromise 0 ten 20 (1 ∷ 0 ∷ 0 ∷ []) r left out → r ≡ 0
+ended-zero r left out p =
+    let q : getD out 0 0 ≡ 1 = stop-first (haltTold (freshly ten 20 .halt)) (freshly ten 20 .steps) r out (p .says) ∙ ten-ends in
+    check-zero 0 ten 20 (1 ∷ 0 ∷ 0 ∷ []) r left out p .1 (λ z. omega arith)
+
+-- "refused 5 at entry 2 after 2"
+post-refused : haltTold (freshly wrongPost 3 .halt) .reason ≡ 3
+unfolding run turnWithin lengthFault inRange stepOf closeOf nameless secondRoot accepted cell
+post-refused = refl
+
+pub fault-zero : (r : ℕ) (left out : List ℕ) → CheckTurnPromise 0 wrongPost 3 (1 ∷ 0 ∷ 0 ∷ []) r left out → r ≡ 0 → ⊥
+fault-zero r left out p z =
+    check-zero 0 wrongPost 3 (1 ∷ 0 ∷ 0 ∷ []) r left out p .0 z
+    (stop-first (haltTold (freshly wrongPost 3 .halt)) (freshly wrongPost 3 .steps) r out (p .says) ∙ post-refused)

@@ -3,16 +3,17 @@
 --   start-zero      the start call of preparing: out is then the fresh state's next entry, and else 0
 --   prepare-zero, walk-zero   the two turns
 --   tarts-zero, tuple-zero-not   2(3,4) on the four entries is answered with 0, but not for a tuple of two numbers
+--   five-start-zero, five-prepare-zero, five-walk-zero   preparing 1(1) on Five, begun and done in five steps, and two steps of its walk return 0
 use Prim.Native.Nat.{ℕ, _*_, _≤_}
-use mathlib.Core.Path.{_≡_, refl}
+use mathlib.Core.Path.{_≡_, refl, _∙_}
 use mathlib.Core.Logic.{_↔_}
 use mathlib.Core.Bool.{Bool, true, false}
-use mathlib.Core.List.{List, [], flatMap}
+use mathlib.Core.List.{List, [], _∷_, flatMap}
 use native.Mathlib.Omega.{arith}
 use lib.Dec.{eqb, leb}
 use lib.ListN.{length, getD, replicate}
 use Rattle.turns.specs.Pick.{pick}
-use Rattle.turns.specs.Turn.{moved, answered, refused, run}
+use Rattle.turns.specs.Turn.{Turned, moved, answered, refused, run}
 use Rattle.trees.specs.Signature.{cell, Entries, entriesOf, width, entries}
 use Rattle.trees.specs.Names.{passes}
 use Rattle.checking.specs.declared.Kind.{Kind}
@@ -20,20 +21,23 @@ use Rattle.checking.specs.Kinds.{most}
 use Rattle.checking.specs.Rule as check
 use Rattle.checking.specs.Rule.{closeOf, accepted, nameless, secondRoot, inRange}
 use Rattle.checking.specs.Turn.{turnWithin, lengthFault}
+use Rattle.checking.specs.Stops.{haltTold}
 use Rattle.checking.specs.Room.{Left, refusedLeft, roomFor}
 use Rattle.checking.specs.Whole.{wholeOf}
-use Rattle.checked.specs.Menus.{tarts, fork}
+use Rattle.checked.specs.Menus.{five, tarts, fork, pair}
 use Rattle.ordering.specs.Next.{ranks, tuples, placedTest, laterTest, answerTest, smallerTest, firstOf, nextAnswer}
 use Rattle.ordered.specs.Promise.{allUpTo, tupleFits, orderedOf}
-use Rattle.preparing.specs.Masks.{can, hasBit}
-use Rattle.twig_turns.specs.Given.{tableWidth}
-use Rattle.preparing.specs.Preparing.{Preparing, prepared, badParent, prepStep}
+use Rattle.preparing.specs.Masks.{can, every, hasBit, mask, put}
+use Rattle.twig_turns.specs.Given.{givenOf, ready, begun, tableWidth}
+use Rattle.preparing.specs.Preparing.{Preparing, prepared, childrenIn, stands, canOf, badParent, written, joined, stepTable, prepStep}
 use Rattle.preparing.specs.PrepTurn.{startFault, prepInRange, prepRun, prepTurnOf, underway}
+use Rattle.walk_ranges.specs.Ranges.{image, place, imageFits, phaseFits}
 use Rattle.walking.specs.declared.Walk.{Walk}
-use Rattle.walking.specs.Walking.{ended, badEnd, endOf, back, found, readied, walkOn, stepOf}
+use Rattle.walking.specs.Walking.{fresh, ended, badEnd, endOf, back, found, readied, walkOn, stepOf}
+use Rattle.walking.specs.Walking.{inRange as walkRange}
 use Rattle.walking.specs.WalkTurn.{walkFits, walkRun, walkTurnOf}
-use Rattle.calls_told.specs.Numbered.{ZeroAnswer, NumberedStep, some-number, halt-zero, turn-numbered, begun-numbered, by-check, refused-zero, room-zero, left-returns, turn-returns}
-use Rattle.walk_numbers.specs.Walk.{walkOf}
+use Rattle.calls_told.specs.Numbered.{ZeroAnswer, NumberedStep, some-number, halt-zero, turn-numbered, begun-numbered, by-check, refused-zero, room-zero, left-returns, turn-returns, stop-first}
+use Rattle.walk_numbers.specs.Walk.{walkOf, walkNumbers}
 use Rattle.twig_calls.specs.Ordered.{OrderedNumbers}
 use Rattle.twig_calls.specs.Prepare.{StartNumbers, PrepareTurnPromise}
 use Rattle.twig_calls.specs.Walk.{WalkTurnPromise}
@@ -146,3 +150,42 @@ tuple-short = refl
 pub tuple-zero-not : (r : ℕ) (after out : List ℕ) → OrderedNumbers tarts (fork 2 3 4) (replicate 2 0) [] r after out → r ≡ 0 → ⊥
 tuple-zero-not r after out p z =
     let q : tarts-refused (replicate 2 0) ≡ 0 = ordered-zero tarts (fork 2 3 4) (replicate 2 0) [] r after out p .0 z in omega (arith, tuple-short)
+
+-- ---- used once: Five and the twig 1(1)
+
+-- the start call for Five, in a room of ten numbers
+pub five-start-zero : (r : ℕ) (after out : List ℕ) → StartNumbers 5 (replicate 10 7) r after out → r ≡ 0
+unfolding startFault
+five-start-zero r after out p = start-zero 5 (replicate 10 7) r after out p .1 (rw (p .says .out-is) (omega arith))
+
+-- five steps of preparing, from what the start call leaves
+abbrev fivePrepared : Turned Preparing
+fivePrepared = prepTurnOf five pair 5 (underway 5 (replicate 10 0))
+
+prepare-ends : haltTold (fivePrepared .halt) .reason ≡ 1
+unfolding run turnWithin lengthFault inRange check.stepOf closeOf nameless secondRoot accepted cell passes
+    every hasBit mask put givenOf ready begun childrenIn stands canOf badParent written joined stepTable prepStep
+prepare-ends = refl
+
+pub five-prepare-zero : (r : ℕ) (after state out : List ℕ) → PrepareTurnPromise five pair (replicate 10 0) (5 ∷ []) 5 r after state out → r ≡ 0
+five-prepare-zero r after state out p =
+    let q : getD out 0 0 ≡ 1 = stop-first (haltTold (fivePrepared .halt)) (fivePrepared .steps) r out (p .says) ∙ prepare-ends in
+    prepare-zero five pair (replicate 10 0) (5 ∷ []) 5 r after state out p .1 (λ z. omega arith)
+
+-- the table that they leave: every entry can be node 2, and node 1 where it has entries below
+abbrev pub fiveTable : List ℕ
+fiveTable = 3 ∷ 3 ∷ 2 ∷ 0 ∷ 3 ∷ 2 ∷ 2 ∷ 0 ∷ 2 ∷ 0 ∷ []
+
+-- two steps of the walk, to the first answer
+abbrev fiveWalked : Turned Walk
+fiveWalked = walkTurnOf five pair fiveTable 2 (walkOf (walkNumbers fresh))
+
+walk-answers : haltTold (fiveWalked .halt) .reason ≡ 0
+unfolding run turnWithin lengthFault inRange check.stepOf closeOf nameless secondRoot accepted cell
+    every hasBit givenOf ready begun image place imageFits phaseFits endOf badEnd back found walkOn walkRange stepOf
+walk-answers = refl
+
+pub five-walk-zero : (r : ℕ) (state out : List ℕ) → WalkTurnPromise five pair fiveTable (walkNumbers fresh) 2 r state out → r ≡ 0
+five-walk-zero r state out p =
+    let q : getD out 0 0 ≡ 0 = stop-first (haltTold (fiveWalked .halt)) (fiveWalked .steps) r out (p .says) ∙ walk-answers in
+    walk-zero five pair fiveTable (walkNumbers fresh) 2 r state out p .1 (λ z. omega arith)
