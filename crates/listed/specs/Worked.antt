@@ -2,23 +2,27 @@
 --   five-right, five-fits, five-not   preparing Five for 1(1) took 5 steps; the root fits at entry 1 and not at entry 2
 --   five-chain, five-told     seven turns tell the six answers of 1(1) on Five, in 14 steps
 --   sixAnswers, five-listed, five-computed   those are all loose answers, by loose-exactly and by computing the list
+--   five-map                  the first of them is the list of a map from the elements of 1(1) to those of Five
 --   five-start-chain, five-from-start, five-next-chain, five-from-answer   the limit, from the start and from an answer
 --   ten-chain, ten-told, ten-listed   8(9,10) on Ten has just the answer 8 9 10
 --   four-chain, four-listed   2(3,4) on the four entries has none
 --   star-count                1(1,1,1) on Five has 72
 use Prim.Native.Nat.{ℕ, _+_}
-use mathlib.Core.Path.{_≡_, refl, _∙_, sym}
+use mathlib.Core.Path.{_≡_, refl, _∙_, sym, subst}
 use mathlib.Core.Bool.{false}
-use mathlib.Core.List.{List, [], _∷_, flatMap}
+use mathlib.Core.List.{List, [], _∷_, flatMap, List·Memᴰ, List·Memᴰ·head}
 use native.Mathlib.Omega.{arith}
 use lib.ListN.{length, replicate}
 use Rattle.turns.specs.Turn.{run}
 use Rattle.turns.specs.Chains.{one, more}
+use Rattle.trees.specs.Tree.{Tree}
 use Rattle.trees.specs.Signature.{cell, entriesOf, width}
 use Rattle.trees.specs.Names.{passes}
 use Rattle.walks.specs.Walking.{answersFrom, passing, passingOf}
 use Rattle.walks.specs.Room.{imageOf}
 use Rattle.walks.specs.Chained.{told}
+use Rattle.walks.specs.Maps.{Lists}
+use Rattle.checking.specs.declared.Kind.{Kind}
 use Rattle.checking.specs.declared.Stop.{Stop}
 use Rattle.checking.specs.Rule as check
 use Rattle.checking.specs.Turn.{turnWithin, lengthFault}
@@ -35,6 +39,8 @@ use Rattle.listed.specs.Questions.{TableSays, WalkTurns, tellOf, start, 
 use Rattle.listed.specs.Prepared.{prepare-n}
 use Rattle.listed.specs.Choosing.{looseAnswers, parentOf}
 use Rattle.listed.specs.Exactly.{allLoose, Within, loose-exactly, walk-within}
+use Rattle.listed.specs.OnTrees.{Loosely, loose-maps}
+use Rattle.checked.specs.Wholly.{accepted-tree}
 use Rattle.checked.specs.Menus.{ten, five, tarts, fork, ones, pair}
 use Rattle.listed.specs.Cases.{walk-handed, five-accepted, four-accepted, ten-accepted}
 use Rattle.listed.specs.Cases.{fiveTable, fourTable, tenTable, lentFor, clearedFor}
@@ -91,6 +97,18 @@ five-listed = sym (loose-exactly five pair five-accepted fiveTable five-prepared
 pub five-computed : allLoose five pair ≡ sixAnswers
 unfolding looseAnswers answersFrom passing passingOf flatMap parentOf imageOf passes cell
 five-computed = refl
+
+-- the two trees, which the accepted signatures have
+abbrev pub fiveTree : Tree
+fiveTree = accepted-tree Kind.Data five (five-accepted .data-tree) .tree
+
+abbrev pub pairTree : Tree
+pairTree = accepted-tree Kind.Twig pair (five-accepted .twig) .tree
+
+pub five-map : Lists fiveTree pairTree (Loosely fiveTree pairTree) (1 ∷ 2 ∷ [])
+five-map =
+    loose-maps five pair five-accepted (1 ∷ 2 ∷ []) .0
+    (subst (λ (l : List (List ℕ)). List·Memᴰ (1 ∷ 2 ∷ []) l) (sym five-listed) (List·Memᴰ·head refl))
 
 -- ---- the limit: 2×m×n+1 = 21 steps from the start, and from an answer
 

@@ -1,26 +1,25 @@
 -- Ordered answers on the elements of the two trees: the maps that document 01 defines, with no rank, pointer or signature in them.
 --   Follows x y        y follows x: it opens after x, and is not below x
---   Map d w            a map from the twig's elements to the data tree's: each name passes, and of two elements the images stand to each other as they do
---   Lists d w l        l is the ranks that such a map gives, in twig preorder
---   answer-lists, lists-answer   a list is an ordered answer exactly if it is that of a map
+--   Ordered d w f      of two elements of the twig, the images by the map f stand to each other as they do
+--   answer-lists, lists-answer   a list is an ordered answer exactly if it is that of such a map
 --   ordered-maps       so the list that a chain of calls gives has just the lists of such maps
 use Prim.Native.Nat.{ℕ, _≤_, _<_}
-use mathlib.Core.Path.{_≡_, ap, _∙_, sym, subst}
+use mathlib.Core.Path.{_≡_, sym, subst}
 use mathlib.Core.Logic.{_⊎_, inl, inr, _↔_}
 use mathlib.Core.List.{List, List·Memᴰ}
 use native.Mathlib.Omega.{arith}
-use lib.ListN.{length}
 use Rattle.trees.specs.Tree.{Forest, Tree, whole, size}
-use Rattle.trees.specs.Nodes.{Node, nameOf, Below, Before}
+use Rattle.trees.specs.Nodes.{Node, Below, Before}
 use Rattle.trees.specs.Ranks.{pre}
 use Rattle.trees.specs.Order.{lt-or-ge}
 use Rattle.trees.specs.NodeRanks.{pre-low, pre-high, node-at}
 use Rattle.trees.specs.NodeOrder.{before-pre, pre-before}
 use Rattle.trees.specs.Signature.{Entries, entriesOf, width, entries}
 use Rattle.trees.specs.Rows.{Holds}
-use Rattle.trees.specs.Meanings.{name-is, below-ff, ff-below, ff-is}
+use Rattle.trees.specs.Meanings.{below-ff, ff-below, ff-is}
 use Rattle.trees.specs.Names.{Passes}
 use Rattle.walks.specs.Image.{image}
+use Rattle.walks.specs.Maps.{Lists, ranks-list, list-ranks, list-names}
 use Rattle.checking.specs.declared.Kind.{Kind}
 use Rattle.checked.specs.Wholly.{AcceptedTree, accepted-tree}
 use Rattle.ordering.specs.Answer.{Placed, Answer}
@@ -31,18 +30,10 @@ use Rattle.ordered_calls.specs.Exactly.{Accepts}
 abbrev pub Follows : {f : Forest} → Node f → Node f → Type 0
 Follows x y = Before x y × (Below x y → ⊥)
 
--- "a name must be equal unless the twig's is 0"; "image of v is below image of u if v is below u, and follows it otherwise"
-pub record Map (d w : Tree) : Type 0 where
-  pub image : Node (whole w) → Node (whole d)
-  pub name : (u : Node (whole w)) → Passes (nameOf u) (nameOf (image u))
-  pub below : (u v : Node (whole w)) → Below u v → Below (image u) (image v)
-  pub follows : (u v : Node (whole w)) → Follows u v → Follows (image u) (image v)
-
--- the ranks of its images, in twig preorder
-pub record Lists (d w : Tree) (l : List ℕ) : Type 0 where
-  pub nodes : length l ≡ size (whole w)
-  pub map : Map d w
-  pub each : (u : Node (whole w)) → image l (pre u) ≡ pre (map .image u)
+-- "image of v is below image of u if v is below u, and follows it otherwise"
+pub record Ordered (d w : Tree) (f : Node (whole w) → Node (whole d)) : Type 0 where
+  pub below : (u v : Node (whole w)) → Below u v → Below (f u) (f v)
+  pub follows : (u v : Node (whole w)) → Follows u v → Follows (f u) (f v)
 
 -- ---- two elements by their ranks
 
@@ -58,63 +49,47 @@ module _ (t : Tree) (e : Entries) (h : Holds e (whole t) 1 0 0) (x y : Node (who
   ff-follows : e .ff (pre x) ≤ pre y → Follows x y
   ff-follows l = (pre-before x y (omega (arith, ff-is t e h x)), λ b. omega (arith, below-ff t e h x y b .1))
 
-module _ (d w : Tree) (e t : Entries) (hd : Holds e (whole d) 1 0 0) (hw : Holds t (whole w) 1 0 0) where
-  module _ (l : List ℕ) (a : Answer (size (whole d)) e (size (whole w)) t l) where
-    there : (u : Node (whole w)) → (x : Node (whole d)) × (pre x ≡ image l (pre u))
-    there u = let r = a .ranks (pre u) (pre-low u) (pre-high u) in node-at (image l (pre u)) (r .0) (r .1)
-
-    names : (u : Node (whole w)) → Passes (nameOf u) (nameOf (there u .0))
-    names u =
-        subst (λ (x : ℕ). Passes x (nameOf (there u .0))) (name-is w t hw u)
-        (subst (Passes (t .name (pre u))) (ap (e .name) (sym (there u .1)) ∙ name-is d e hd (there u .0)) (a .names (pre u) (pre-low u) (pre-high u)))
-
-    -- the images' own ranks stand to each other as the answer's numbers do
-    placed : (u v : Node (whole w)) → pre u < pre v → Placed e t (pre u) (pre v) (pre (there u .0)) (pre (there v .0))
-    placed u v k =
-        subst (λ (x : ℕ). Placed e t (pre u) (pre v) x (pre (there v .0))) (sym (there u .1))
-        (subst (Placed e t (pre u) (pre v) (image l (pre u))) (sym (there v .1)) (a .pairs (pre u) (pre v) (pre-low u) k (pre-high v)))
-
-    lies : (u v : Node (whole w)) → Below u v → Below (there u .0) (there v .0)
-    lies u v b =
-        let g = below-ff w t hw u v b in
-        let c = placed u v (g .0) .below (g .1) in
-        ff-below d e hd (there u .0) (there v .0) (c .after) (c .before)
-
-    comes : (u v : Node (whole w)) → Follows u v → Follows (there u .0) (there v .0)
-    comes u v f = ff-follows d e hd (there u .0) (there v .0) (placed u v (before-pre u v (f .0)) .follows (follows-ff w t hw u v f))
-
-    pub answer-lists : Lists d w l
-    answer-lists = record {
-      nodes = a .nodes;
-      map = record { image = λ u. there u .0; name = names; below = lies; follows = comes };
-      each = λ u. sym (there u .1);
+module _ (d w : Tree) (e t : Entries) (hd : Holds e (whole d) 1 0 0) (hw : Holds t (whole w) 1 0 0) (l : List ℕ) where
+  module _ (a : Answer (size (whole d)) e (size (whole w)) t l) where
+    stand : (f : Node (whole w) → Node (whole d)) → ((u : Node (whole w)) → pre (f u) ≡ image l (pre u)) → Ordered d w f
+    stand f s = record {
+      below = λ u v b.
+          let g = below-ff w t hw u v b in
+          let c = placed u v (g .0) .below (g .1) in
+          ff-below d e hd (f u) (f v) (c .after) (c .before);
+      follows = λ u v b. ff-follows d e hd (f u) (f v) (placed u v (before-pre u v (b .0)) .follows (follows-ff w t hw u v b));
     }
+      where
+        -- the images' own ranks stand to each other as the answer's numbers do
+        placed : (u v : Node (whole w)) → pre u < pre v → Placed e t (pre u) (pre v) (pre (f u)) (pre (f v))
+        placed u v k =
+            subst (λ (x : ℕ). Placed e t (pre u) (pre v) x (pre (f v))) (sym (s u))
+            (subst (Placed e t (pre u) (pre v) (image l (pre u))) (sym (s v)) (a .pairs (pre u) (pre v) (pre-low u) k (pre-high v)))
 
-  module _ (l : List ℕ) (m : Lists d w l) where
+    pub answer-lists : Lists d w (Ordered d w) l
+    answer-lists =
+        ranks-list d w e t hd hw (Ordered d w) l (a .nodes) (λ u. a .ranks (pre u) (pre-low u) (pre-high u))
+        (λ u. a .names (pre u) (pre-low u) (pre-high u)) stand
+
+  module _ (m : Lists d w (Ordered d w) l) where
     abbrev at : Node (whole w) → Node (whole d)
     at u = m .map .image u
-
-    node-ranked : (u : Node (whole w)) → (1 ≤ image l (pre u)) × (image l (pre u) ≤ size (whole d))
-    node-ranked u = (omega (arith, m .each u, pre-low (at u)), omega (arith, m .each u, pre-high (at u)))
-
-    node-named : (u : Node (whole w)) → Passes (t .name (pre u)) (e .name (image l (pre u)))
-    node-named u =
-        subst (λ (x : ℕ). Passes x (e .name (image l (pre u)))) (sym (name-is w t hw u))
-        (subst (Passes (nameOf u)) (sym (name-is d e hd (at u)) ∙ ap (e .name) (sym (m .each u))) (m .map .name u))
 
     node-placed : (u v : Node (whole w)) → pre u < pre v → Placed e t (pre u) (pre v) (image l (pre u)) (image l (pre v))
     node-placed u v k =
         subst (λ (x : ℕ). Placed e t (pre u) (pre v) x (image l (pre v))) (sym (m .each u))
         (subst (Placed e t (pre u) (pre v) (pre (at u))) (sym (m .each v)) (record {
-          below = λ h. let b = below-ff d e hd (at u) (at v) (m .map .below u v (ff-below w t hw u v k h)) in record { after = b .0; before = b .1 };
-          follows = λ h. follows-ff d e hd (at u) (at v) (m .map .follows u v (ff-follows w t hw u v h));
+          below = λ h. let b = below-ff d e hd (at u) (at v) (m .map .fits .below u v (ff-below w t hw u v k h)) in record { after = b .0; before = b .1 };
+          follows = λ h. follows-ff d e hd (at u) (at v) (m .map .fits .follows u v (ff-follows w t hw u v h));
         }))
 
     pub lists-answer : Answer (size (whole d)) e (size (whole w)) t l
     lists-answer = record {
       nodes = m .nodes;
-      ranks = λ q a b. let u = node-at q a b in subst (λ (x : ℕ). (1 ≤ image l x) × (image l x ≤ size (whole d))) (u .1) (node-ranked (u .0));
-      names = λ q a b. let u = node-at q a b in subst (λ (x : ℕ). Passes (t .name x) (e .name (image l x))) (u .1) (node-named (u .0));
+      ranks = λ q a b. let u = node-at q a b in subst (λ (x : ℕ). (1 ≤ image l x) × (image l x ≤ size (whole d))) (u .1)
+          (list-ranks d w e t hd hw (Ordered d w) l m (u .0));
+      names = λ q a b. let u = node-at q a b in subst (λ (x : ℕ). Passes (t .name x) (e .name (image l x))) (u .1)
+          (list-names d w e t hd hw (Ordered d w) l m (u .0));
       pairs = λ p q a k b.
           let u = node-at {f = whole w} p a (omega (arith, k, b)) in
           let v = node-at {f = whole w} q (omega (arith, a, k)) b in
@@ -139,7 +114,8 @@ module _ (s tw : List ℕ) (a : Accepts Kind.Twig tw) (b : Accepts Kind.Data s) 
 
   -- the list that a chain of calls gives has just the lists of the maps
   pub ordered-maps : (l : List ℕ)
-      → List·Memᴰ l (answersOf (entries s) (entriesOf width s) (entries tw) (entriesOf width tw)) ↔ Lists (dataTree .tree) (twigTree .tree) l
+      → List·Memᴰ l (answersOf (entries s) (entriesOf width s) (entries tw) (entriesOf width tw))
+      ↔ Lists (dataTree .tree) (twigTree .tree) (Ordered (dataTree .tree) (twigTree .tree)) l
   ordered-maps l =
       let x = answers-exactly (entries s) (entriesOf width s) (entries tw) (entriesOf width tw) l in (
         λ h. answer-lists (dataTree .tree) (twigTree .tree) (entriesOf width s) (entriesOf width tw) (dataTree .of .holds) (twigTree .of .holds) l

@@ -7,6 +7,7 @@ use mathlib.Core.Path.{_≡_, refl, sym, subst}
 use mathlib.Core.List.{List, [], _∷_, flatMap, List·Memᴰ, List·Memᴰ·head}
 use native.Mathlib.Omega.{arith}
 use Rattle.turns.specs.Turn.{run}
+use Rattle.trees.specs.Tree.{Tree}
 use Rattle.trees.specs.Names.{passes}
 use Rattle.trees.specs.Signature.{cell, entriesOf, width, entries}
 use Rattle.checking.specs.declared.Kind.{Kind}
@@ -16,11 +17,12 @@ use Rattle.checking.specs.Turn.{turnWithin, lengthFault}
 use Rattle.checking.specs.Room.{roomFor}
 use Rattle.checked.specs.Menus.{ten, fork}
 use Rattle.checked.specs.Wholly.{accepted-tree}
+use Rattle.walks.specs.Maps.{Lists}
 use Rattle.ordering.specs.Next.{ranks, tuples, placedTest, laterTest, answerTest, smallerTest, firstOf, nextAnswer}
 use Rattle.ordering.specs.Listing.{kept, answersOf}
 use Rattle.ordered.specs.Promise.{allUpTo, tupleFits, orderedOf}
 use Rattle.ordered_calls.specs.Calls.{Called, Calls, end, then, Begun, stopped, went, Complete, Front, calls-list, calls-front}
-use Rattle.ordered_calls.specs.OnTrees.{Lists, ordered-maps}
+use Rattle.ordered_calls.specs.OnTrees.{Ordered, ordered-maps}
 use Rattle.ordered_calls.specs.ShutOut.{zeros, found, three, fork-accepted, ten-accepted}
 
 -- the first call, from zeros on
@@ -53,7 +55,14 @@ ten-all : answersOf (entries ten) (entriesOf width ten) (entries (fork 8 9 10)) 
 unfolding kept tuples ranks flatMap answerTest laterTest placedTest passes cell
 ten-all = refl
 
-pub ten-map : Lists (accepted-tree Kind.Data ten ten-accepted .tree) (accepted-tree Kind.Twig (fork 8 9 10) fork-accepted .tree) found
+-- the two trees, which the accepted signatures have
+abbrev pub tenTree : Tree
+tenTree = accepted-tree Kind.Data ten ten-accepted .tree
+
+abbrev pub forkTree : Tree
+forkTree = accepted-tree Kind.Twig (fork 8 9 10) fork-accepted .tree
+
+pub ten-map : Lists tenTree forkTree (Ordered tenTree forkTree) found
 ten-map =
     ordered-maps ten (fork 8 9 10) fork-accepted ten-accepted found .0
     (subst (λ (l : List (List ℕ)). List·Memᴰ found l) (sym ten-all) (List·Memᴰ·head refl))

@@ -7,6 +7,7 @@ pub mod Comparing
 pub mod Preorder
 pub mod Room
 pub mod Image
+pub mod Maps
 pub mod Stepping
 pub mod Listing
 pub mod Plain
