@@ -4,12 +4,11 @@
 --   good-kept       what let the turn run still holds of the state handed back
 --   cut, larger     a turn of a + b steps is one of a and then one of b, unless it stopped
 --   fault           a refusal met by a step is that of the next step, which the budget would have paid for
---   count-unique    no two counts join the same two states
-use Prim.Native.Nat.{ℕ, suc, _+_}
-use mathlib.Core.Path.{_≡_, refl, ap, _∙_, sym, subst}
+use Prim.Native.Nat.{ℕ, _+_}
+use mathlib.Core.Path.{_≡_, ap, _∙_, sym}
 use mathlib.Core.Bool.{Bool}
 use native.Mathlib.Omega.{arith}
-use Rattle.turns.specs.Turn.{Next, Halt, Turned, turn, Step, on, found, Steps, none, then}
+use Rattle.turns.specs.Turn.{Next, Halt, Turned, turn, Step, Steps, none, then}
 use Rattle.turns.specs.Counts as Counts
 use Rattle.turns.specs.Laws as Laws
 use Rattle.turns.specs.Chains as Chains
@@ -50,25 +49,3 @@ module _ (S : Type 0) (done : S → Bool) (step : S → Next S) (whole : ℕ →
     fault b st g number entry e =
         rw (run-is b st g)
         (Laws.stops-before-the-fault S done step b st number entry (ap (λ (t : Turned S). t .halt) (sym (run-is b st g)) ∙ e))
-
-    -- ---- one count for two states
-
-    step-same : {st a b : S} → Step S done step st a → Step S done step st b → a ≡ b
-    step-same (on h e) (on g f) = let q = sym e ∙ f in cc
-    step-same (on h e) (found g f) = let q = sym e ∙ f in let z : _≡_ {A = ℕ} 0 1 = cc in absurd (omega arith)
-    step-same (found h e) (on g f) = let q = sym e ∙ f in let z : _≡_ {A = ℕ} 0 1 = cc in absurd (omega arith)
-    step-same (found h e) (found g f) = let q = sym e ∙ f in cc
-
-    -- each step from a good state leads on, and nothing leads back to itself
-    module _ (On : S → S → Type 0) (on-on : (a b c : S) → On a b → On b c → On a c) (never : (a : S) → On a a → ⊥)
-        (progress : (a b : S) → Good a → Step S done step a b → On a b) where
-      steps-on : {k : ℕ} {a b : S} → Good a → Steps S done step (suc k) a b → On a b
-      steps-on g (then s none) = progress _ _ g s
-      steps-on g (then s (then r m)) = on-on _ _ _ (progress _ _ g s) (steps-on (kept _ _ s g) (then r m))
-
-      pub count-unique : {j k : ℕ} {a b : S} → Good a → Steps S done step j a b → Steps S done step k a b → j ≡ k
-      count-unique g none none = refl
-      count-unique g none (then s m) = absurd (never _ (steps-on g (then s m)))
-      count-unique g (then s m) none = absurd (never _ (steps-on g (then s m)))
-      count-unique {b = b} g (then s m) (then {k = k} r w) =
-          ap suc (count-unique (kept _ _ s g) m (subst (λ (x : S). Steps S done step k x b) (step-same r s) w))

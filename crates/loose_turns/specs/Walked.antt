@@ -14,6 +14,7 @@ use lib.ListN.{length}
 use native.Mathlib.Omega.{arith}
 use native.Mathlib.Decide.{ℕ-discrete, decLe}
 use Rattle.turns.specs.Turn.{Next, Halt, Turned, turn, Step, on, found, Steps}
+use Rattle.turns.specs.Counts as Counts
 use Rattle.turns.specs.Laws as Laws
 use Rattle.trees.specs.Signature.{Entries, entriesOf, width, entries}
 use Rattle.checking.specs.declared.Stop.{Stop}
@@ -157,5 +158,5 @@ module _ (sig twig table : List ℕ) where
 
   pub count-unique : {i j : ℕ} {a b : Walk} → Good a → Steps Walk ended step i a b → Steps Walk ended step j a b → i ≡ j
   count-unique g m w =
-      Judging.count-unique Walk ended step whole Good run-is kept (λ a b. Less (trail a) (trail b)) (λ a b c x y. less-trans x y)
+      Counts.good-count-unique Walk ended step Good kept (λ a b. Less (trail a) (trail b)) (λ a b c x y. less-trans x y)
       (λ a x. less-apart x refl) leads-on g m w

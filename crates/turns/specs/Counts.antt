@@ -1,7 +1,8 @@
 -- Steps counted: the state handed back is the one after exactly the steps counted, and no two counts join the same two states.
 --   moves-append, moves-split   steps one after the other
 --   counted          the state that a turn hands back is the one after exactly the steps that it says it took
---   count-unique     where each step makes progress, no two counts join the same two states
+--   good-count-unique   where each step from a good state makes progress, no two counts join the same two states
+--   count-unique     the same where each step does
 use Prim.Native.Nat.{ℕ, zero, suc, _+_, _-_, _≤_, _<_}
 use mathlib.Core.Path.{_≡_, refl, ap, _∙_, sym, subst}
 use mathlib.Core.Bool.{Bool, false}
@@ -74,16 +75,23 @@ module _ (S : Type 0) (finished : S → Bool) (step : S → Next S) where
   step-same (found h e) (on g f) = let q = sym e ∙ f in let z : _≡_ {A = ℕ} 0 1 = cc in absurd (omega arith)
   step-same (found h e) (found g f) = let q = sym e ∙ f in cc
 
-  -- each step leads on, and nothing leads back to itself
+  -- each step from a good state leads on to a good one, and nothing leads back to itself
+  module _ (Good : S → Type 0) (kept : (a b : S) → Step S finished step a b → Good a → Good b)
+      (On : S → S → Type 0) (on-on : (a b c : S) → On a b → On b c → On a c) (never : (a : S) → On a a → ⊥)
+      (progress : (a b : S) → Good a → Step S finished step a b → On a b) where
+    steps-on : {k : ℕ} {a b : S} → Good a → Steps S finished step (suc k) a b → On a b
+    steps-on g (then s none) = progress _ _ g s
+    steps-on g (then s (then r m)) = on-on _ _ _ (progress _ _ g s) (steps-on (kept _ _ s g) (then r m))
+
+    pub good-count-unique : {j k : ℕ} {a b : S} → Good a → Steps S finished step j a b → Steps S finished step k a b → j ≡ k
+    good-count-unique g none none = refl
+    good-count-unique g none (then s m) = absurd (never _ (steps-on g (then s m)))
+    good-count-unique g (then s m) none = absurd (never _ (steps-on g (then s m)))
+    good-count-unique {b = b} g (then s m) (then {k = k} r w) =
+        ap suc (good-count-unique (kept _ _ s g) m (subst (λ (x : S). Steps S finished step k x b) (step-same r s) w))
+
+  -- the same where every state is good
   module _ (On : S → S → Type 0) (on-on : (a b c : S) → On a b → On b c → On a c) (never : (a : S) → On a a → ⊥)
       (progress : (a b : S) → Step S finished step a b → On a b) where
-    steps-on : {k : ℕ} {a b : S} → Steps S finished step (suc k) a b → On a b
-    steps-on (then s none) = progress _ _ s
-    steps-on (then s (then r m)) = on-on _ _ _ (progress _ _ s) (steps-on (then r m))
-
     pub count-unique : {j k : ℕ} {a b : S} → Steps S finished step j a b → Steps S finished step k a b → j ≡ k
-    count-unique none none = refl
-    count-unique none (then s m) = absurd (never _ (steps-on (then s m)))
-    count-unique (then s m) none = absurd (never _ (steps-on (then s m)))
-    count-unique {b = b} (then s m) (then {k = k} r w) =
-        ap suc (count-unique m (subst (λ (x : S). Steps S finished step k x b) (step-same r s) w))
+    count-unique m w = good-count-unique (λ a. Unit {0}) (λ a b s g. tt) On on-on never (λ a b g s. progress a b s) tt m w
