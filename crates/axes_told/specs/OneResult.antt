@@ -20,7 +20,7 @@ use Rattle.checking.specs.declared.Refusal.{Refusal}
 use Rattle.checking.specs.declared.Written.{Written}
 use Rattle.checking.specs.Stops.{Answered}
 use Rattle.checking.specs.Whole.{wholeOf, WholePromise}
-use Rattle.checked.specs.Apart.{answered-apart}
+use Rattle.checked.specs.Apart.{refusal-same, answered-apart}
 use Rattle.blocks.specs.declared.LevelAnswer.{LevelAnswer}
 use Rattle.blocks.specs.declared.PlaceAnswer.{PlaceAnswer}
 use Rattle.blocks.specs.Checked.{afterCheck, isRank}
@@ -28,13 +28,9 @@ use Rattle.blocks.specs.Level.{Leveled, levelTold, LevelPromise}
 use Rattle.blocks.specs.Block.{Placed, placeTold, placeRefused, placeWithin, placeAnswer, PlacePromise, partAt, BlockPromise}
 use Rattle.checking.specs.Room.{roomFor, refusedLeft, writtenLeft}
 use Rattle.marks.specs.Axis.{axisAnswer, axisWithin, argumentsFine, answerIn, AxisPromise}
-use Rattle.blocks.proofs.Calls.{rank-inverse}
-use Rattle.blocks.proofs.Calls.{ready-of, after-accepted, accepted-or-not, place-yes, place-no, place-inside}
+use Rattle.blocks.proofs.Calls.{rank-inverse, ready-of, after-accepted, accepted-or-not, place-yes, place-no, place-inside}
 
 -- ---- the numbers tell answers apart
-
-refusal-same : (a b : Refusal) → a .number ≡ b .number → a .entry .0 ≡ b .entry .0 → a ≡ b
-refusal-same a b p q = λ i. record { number = p i; entry = record { 0 = q i } }
 
 pub level-apart : (a b : LevelAnswer) → levelTold a ≡ levelTold b → a ≡ b
 level-apart (LevelAnswer.Level l) (LevelAnswer.Level m) q = ap (λ (x : ℕ). LevelAnswer.Level x) (ap (λ (t : Leveled). t .level) q)

@@ -39,9 +39,8 @@ use Rattle.checking.specs.Room.{Left, refusedLeft, roomFor}
 use Rattle.marks.specs.Axis.{axisWithin, axisAnswer, answerIn, AxisPromise}
 use Rattle.blocks.specs.Checked.{afterCheck}
 use Rattle.axes_told.specs.OneResult.{level-apart, place-apart}
-use Rattle.blocks.proofs.Calls.{rank-yes}
+use Rattle.blocks.proofs.Calls.{rank-yes, after-accepted, level-yes, place-yes}
 use native.Mathlib.Nat.{eq-or-lt-of-le}
-use Rattle.blocks.proofs.Calls.{after-accepted, level-yes, place-yes}
 use Rattle.marks.proofs.Calls.{within-fine, fine-low, room-enough, room-short}
 
 module _ (s : List ℕ) (w : Words s) (y : Yields Kind.Data s) where

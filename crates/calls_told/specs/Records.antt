@@ -5,7 +5,7 @@
 use Prim.Native.Nat.{ℕ}
 use mathlib.Core.Path.{_≡_, refl}
 use mathlib.Core.Logic.{_↔_}
-use mathlib.Core.List.{List, [], _∷_}
+use mathlib.Core.List.{List}
 use native.Mathlib.Omega.{arith}
 use lib.ListN.{replicate}
 use Rattle.turns.specs.Turn.{run}
@@ -16,7 +16,7 @@ use Rattle.checking.specs.Rule.{stepOf, closeOf, accepted, nameless, secondRoot
 use Rattle.checking.specs.Turn.{turnWithin, lengthFault}
 use Rattle.checking.specs.Room.{Left, roomFor, leftBy, refusedLeft}
 use Rattle.checking.specs.Whole.{wholeOf}
-use Rattle.checked.specs.Menus.{single}
+use Rattle.checked.specs.Menus.{single, singleRecord, singleTags}
 use Rattle.bytes_read.specs.Bytes.{marked}
 use Rattle.bytes_read.specs.Scans.{stepBy}
 use Rattle.records.specs.Records.{readLeft, writeLeft, recordFault, recordsEnd, numbersFrom, bytesFrom, namelessFrom, writeFault}
@@ -66,16 +66,12 @@ pub short-zero : (r : ℕ) (after out : List ℕ) → BackNumbers 0 single (repl
 short-zero r after out p z =
     let q : single-refused (replicate 5 0) ≡ 0 = back-zero (replicate 5 0) r after out 0 single p .0 z in omega (arith, single-short)
 
--- "A signature record is `SE` and the four numbers, 10 bytes."
-abbrev pub record-bytes : List ℕ
-record-bytes = 83 ∷ 69 ∷ 7 ∷ 0 ∷ 1 ∷ 0 ∷ 2 ∷ 0 ∷ 0 ∷ 0 ∷ []
-
-record-read : readLeft record-bytes (replicate 4 0) .answer .refused ≡ 0
+record-read : readLeft singleRecord (replicate 4 0) .answer .refused ≡ 0
 unfolding leftBy roomFor run marked stepBy recordFault recordsEnd numbersFrom
 record-read = refl
 
-pub record-read-zero : (r : ℕ) (after out : List ℕ) → ReadNumbers record-bytes (replicate 4 0) r after out → r ≡ 0
-record-read-zero r after out p = read-zero (replicate 4 0) r after out record-bytes p .1 record-read
+pub record-read-zero : (r : ℕ) (after out : List ℕ) → ReadNumbers singleRecord (replicate 4 0) r after out → r ≡ 0
+record-read-zero r after out p = read-zero (replicate 4 0) r after out singleRecord p .1 record-read
 
 record-written : writeLeft single (replicate 10 0) .answer .refused ≡ 0
 unfolding leftBy roomFor lengthFault cell bytesFrom namelessFrom writeFault
@@ -84,14 +80,10 @@ record-written = refl
 pub record-written-zero : (r : ℕ) (after out : List ℕ) → WriteNumbers single (replicate 10 0) r after out → r ≡ 0
 record-written-zero r after out p = write-zero (replicate 10 0) r after out single p .1 record-written
 
--- "`OP` and a name opens an element (4 bytes) and `CL` closes the innermost one (2 bytes)"
-abbrev pub list-bytes : List ℕ
-list-bytes = 79 ∷ 80 ∷ 7 ∷ 0 ∷ 67 ∷ 76 ∷ []
-
-list-read : tagsLeft Kind.Data list-bytes (replicate 4 0) .answer .refused ≡ 0
+list-read : tagsLeft Kind.Data singleTags (replicate 4 0) .answer .refused ≡ 0
 unfolding leftBy roomFor run marked stepBy tagsOf opened closed rowsOf oneTree treeOf
     tagBytes closedWith namelessAt misnested tagFault tagNext treeEnd tagsFrom
 list-read = refl
 
-pub list-read-zero : (r : ℕ) (after out : List ℕ) → TagsNumbers 0 list-bytes (replicate 4 0) r after out → r ≡ 0
-list-read-zero r after out p = tags-zero (replicate 4 0) r after out 0 list-bytes p .1 list-read
+pub list-read-zero : (r : ℕ) (after out : List ℕ) → TagsNumbers 0 singleTags (replicate 4 0) r after out → r ≡ 0
+list-read-zero r after out p = tags-zero (replicate 4 0) r after out 0 singleTags p .1 list-read

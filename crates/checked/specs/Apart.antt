@@ -1,4 +1,5 @@
 -- The numbers of a stop reason or a verdict tell it apart from every other.
+--   refusal-same                                a refusal is its number and its entry
 --   told-apart, verdict-apart, answered-apart   equal numbers, equal answers
 --   told-halt, halt-told                        the code's stop reason says what stopped the turn
 --   handed-unique, handed-turned                what is handed back for a turn is that turn
@@ -19,7 +20,7 @@ use Rattle.checking.specs.Turn.{Handed}
 reasonOf : {a b : Told} → a ≡ b → a .reason ≡ b .reason
 reasonOf q = ap (λ (t : Told). t .reason) q
 
-refusal-same : (a b : Refusal) → a .number ≡ b .number → a .entry .0 ≡ b .entry .0 → a ≡ b
+pub refusal-same : (a b : Refusal) → a .number ≡ b .number → a .entry .0 ≡ b .entry .0 → a ≡ b
 refusal-same a b p q = λ i. record { number = p i; entry = record { 0 = q i } }
 
 refused-same : (a b : Refusal) → told (Stop.Refused a) ≡ told (Stop.Refused b) → a ≡ b

@@ -1,6 +1,6 @@
 -- Document 01's trees, under "Tried at the edges".
 --   ten, five        the paper's tree of ten elements, and five elements that are all named 1
---   single, …        the smaller ones
+--   single, …        the smaller ones; singleRecord and singleTags are the bytes of the first
 --   tarts            the four entries on which only neighbours are compared by a trainee
 --   fork, ones, pair   the twigs a(b,c), 1(1,1,1) and 1(1)
 use Prim.Native.Nat.{ℕ}
@@ -19,6 +19,14 @@ five = 1 ∷ 5 ∷ 6 ∷ 0 ∷ 1 ∷ 1 ∷ 3 ∷ 1 ∷ 1 ∷ 4 ∷ 6 ∷ 1 ∷ 1
 -- "One entry 7,1,2,0"
 abbrev pub single : List ℕ
 single = 7 ∷ 1 ∷ 2 ∷ 0 ∷ []
+
+-- the same entry by "A signature record is `SE` and the four numbers, 10 bytes"
+abbrev pub singleRecord : List ℕ
+singleRecord = 83 ∷ 69 ∷ 7 ∷ 0 ∷ 1 ∷ 0 ∷ 2 ∷ 0 ∷ 0 ∷ 0 ∷ []
+
+-- and its tag list: "`OP` and a name opens an element (4 bytes) and `CL` closes the innermost one (2 bytes)"
+abbrev pub singleTags : List ℕ
+singleTags = 79 ∷ 80 ∷ 7 ∷ 0 ∷ 67 ∷ 76 ∷ []
 
 -- "Entries 5,2,3,0; 5,1,3,0"
 abbrev pub twoRoots : List ℕ

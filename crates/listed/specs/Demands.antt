@@ -2,7 +2,6 @@
 --   Preparer, Walker       any turn of preparing, any turn of walking
 --   PrepCalls, WalkCalls   calls one after the other, each given what the one before handed back
 --   PrepTwo, WalkTwo       demand 2: the table is right where the end is reported; the answers told are the list of all loose answers
---   reading                the state and the table that a turn of preparing is given
 --   PrepThree, WalkThree   demand 3: each turn is what document 01 says of a turn of the written rule
 --   ours-prep-two, ours-walk-two, ours-prep-three, ours-walk-three   whatever keeps our promises meets them
 --   prep-three-turn, walk-three-turn   demand 3 leaves one turn only
@@ -14,7 +13,7 @@ use mathlib.Core.List.{List, _++_}
 use native.Mathlib.Omega.{arith}
 use lib.ListN.{length}
 use borrow.Author.Tests.{le-leb}
-use Rattle.turns.specs.Turn.{Turned, turn, Outcome}
+use Rattle.turns.specs.Turn.{Turned, Outcome}
 use Rattle.turns.specs.Laws.{turn-outcome, outcome-turn}
 use Rattle.turns.specs.Chains.{Chain, one, more}
 use Rattle.trees.specs.Signature.{entriesOf, width, entries}
@@ -27,10 +26,10 @@ use Rattle.walking.specs.declared.WalkTurn.{WalkTurn}
 use Rattle.preparing.specs.Masks.{can}
 use Rattle.twig_turns.specs.Given.{givenOf}
 use Rattle.preparing.specs.Preparing.{Preparing, prepared, prepStep}
-use Rattle.preparing.specs.PrepTurn.{StartPromise, preparing, prepInRange, prepRunOf, PrepHanded, PrepPromise}
+use Rattle.preparing.specs.PrepTurn.{StartPromise, prepInRange, prepRunOf, PrepHanded, PrepPromise}
 use Rattle.walking.specs.Walking.{inRange, stepOf, ended, fresh}
 use Rattle.walking.specs.WalkTurn.{walkRunOf, WalkHanded, WalkPromise}
-use Rattle.listed.specs.Questions.{Accepted, Lent, PrepBack, lend, TableSays, NoBitsAbove, Prepared, tellOf, start}
+use Rattle.listed.specs.Questions.{Accepted, Lent, PrepBack, lend, reading, TableSays, NoBitsAbove, Prepared, tellOf, start}
 use Rattle.listed.specs.Given.{begun-runs}
 use Rattle.listed.specs.Ruling.{Ready}
 use Rattle.listed.specs.Prepared.{Done, Short, prepare-n, prepare-bits, prepare-ends}
@@ -82,10 +81,6 @@ pub record WalkTwo (call : Walker) : Type 0 where
       → AllButLast (λ u. u .stop ≡ Stop.Budget) c → 2 * (entries tw * entries s) + 1 ≤ B → (r .stop ≡ Stop.Answer) ⊎ (r .stop ≡ Stop.End)
 
 -- ---- demand 3
-
--- the state and the table that a turn of preparing is given
-abbrev pub reading : Lent → Preparing
-reading st = preparing (st .state) (st .table)
 
 -- for any signature, with a twig and a length that are not refused, and any state and table in range
 abbrev pub PrepThree : Preparer → Type 0

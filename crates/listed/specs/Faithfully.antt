@@ -19,9 +19,9 @@ use Rattle.walking.specs.Walking.{inRange, stepOf, ended}
 use Rattle.loose_turns.specs.Prepared as prep
 use Rattle.loose_turns.specs.Prepared.{halt-of}
 use Rattle.loose_turns.specs.Walked as walk
-use Rattle.listed.specs.Questions.{Lent, PrepBack}
+use Rattle.listed.specs.Questions.{Lent, PrepBack, reading}
 use Rattle.listed.specs.Ruling.{Ready}
-use Rattle.listed.specs.Demands.{Preparer, Walker, PrepThree, WalkThree, reading}
+use Rattle.listed.specs.Demands.{Preparer, Walker, PrepThree, WalkThree}
 
 -- the state and the table of preparing, as they are lent
 abbrev pub lentOf : Preparing → Lent

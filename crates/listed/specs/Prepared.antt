@@ -23,12 +23,11 @@ use Rattle.checked.specs.Apart.{stopOf, told-halt}
 use Rattle.preparing.specs.declared.Prep.{Prep}
 use Rattle.preparing.specs.declared.Started.{Started}
 use Rattle.preparing.specs.Preparing.{Preparing, prepared, prepStep}
-use Rattle.preparing.specs.PrepTurn.{cleared, Fresh, startFault, StartPromise, preparing}
-use Rattle.preparing.specs.PrepTurn.{prepRunOf, prepTurnOf, prepInRange, PrepHanded, PrepPromise}
+use Rattle.preparing.specs.PrepTurn.{cleared, Fresh, startFault, StartPromise, prepRunOf, prepTurnOf, prepInRange, PrepHanded, PrepPromise}
 use Rattle.listed.specs.Tables.{clear-length}
 use Rattle.listed.specs.Rightly.{Right, clear-right, right-fits}
 use Rattle.listed.specs.Ruling.{Finished, prep-moves, Ready, ready-kept, fault-room}
-use Rattle.listed.specs.Questions.{Accepted, Lent, PrepBack, lend, PrepTurns, TableSays, NoBitsAbove}
+use Rattle.listed.specs.Questions.{Accepted, Lent, PrepBack, lend, reading, PrepTurns, TableSays, NoBitsAbove}
 use Rattle.listed.specs.Given.{Grounds, accepted-grounds, begun-runs}
 use Rattle.listed.specs.Public.{Back, turn-kept, Ran, chain-ran}
 
@@ -67,9 +66,6 @@ module _ (s tw : List ℕ) where
 
   abbrev w : Entries
   w = entriesOf width tw
-
-  abbrev reading : Lent → Preparing
-  reading st = preparing (st .state) (st .table)
 
   module _ (g : Grounds s tw) where
     abbrev Is : PrepBack → Turned Preparing → Type 0

@@ -32,15 +32,14 @@ use Rattle.walk_ranges.specs.Ranges.{image, place, imageFits, phaseFits}
 use Rattle.walking.specs.Walking.{at, fresh, inRange, endOf, badEnd, back, found, walkOn, stepOf}
 use Rattle.walking.specs.WalkTurn.{walkRunOf, WalkHanded}
 use Rattle.listed.specs.Loose.{PartFits}
-use Rattle.listed.specs.Questions.{Lent, PrepBack, TableSays}
+use Rattle.listed.specs.Questions.{Lent, PrepBack, reading, TableSays}
 use Rattle.listed.specs.Questions as questions
 use Rattle.listed.specs.Given.{accepted-grounds}
 use Rattle.listed.specs.Ruling.{Ready}
 use Rattle.listed.specs.Prepared.{prepare-n}
-use Rattle.listed.specs.Cases.{four-accepted, ten-accepted, fourTable, tenTable, clearedFor}
-use Rattle.listed.specs.Cases.{four-prepared, ten-prepared}
+use Rattle.listed.specs.Cases.{four-accepted, ten-accepted, fourTable, tenTable, clearedFor, four-prepared, ten-prepared}
 use Rattle.listed.specs.Worked.{four-listed, ten-listed}
-use Rattle.listed.specs.Demands.{Preparer, Walker, PrepTwo, WalkTwo, PrepThree, WalkThree, reading, prep-three-turn, walk-three-turn}
+use Rattle.listed.specs.Demands.{Preparer, Walker, PrepTwo, WalkTwo, PrepThree, WalkThree, prep-three-turn, walk-three-turn}
 
 -- ---- demand 2 of preparing
 

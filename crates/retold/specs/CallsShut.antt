@@ -17,6 +17,7 @@ use Rattle.checking.specs.Turn.{turnWithin, lengthFault}
 use Rattle.checking.specs.declared.Kind.{Kind}
 use Rattle.checking.specs.declared.Refusal.{Refusal}
 use Rattle.checking.specs.declared.Written.{Written}
+use Rattle.checked.specs.Menus.{single, singleRecord, singleTags}
 use Rattle.bytes_read.specs.Bytes.{marked}
 use Rattle.bytes_read.specs.Scans.{stepBy, haltNumber}
 use Rattle.checking.specs.Room.{Left, leftBy, roomFor, Leaves}
@@ -26,16 +27,7 @@ use Rattle.tag_scan.specs.TagLists.{tagBytes, closedWith, namelessAt, misnested
 use Rattle.tag_lists.specs.Readers.{readTold, tagsLeft, TagsPromise, TreePromise}
 use Rattle.tag_writing.specs.TagsBack.{rowFrom, backLeft, BackPromise}
 
--- the starred entry 7,1,2,0 as numbers, as a record and as a tag list; nothing; and a room
-abbrev entry : List ℕ
-entry = 7 ∷ 1 ∷ 2 ∷ 0 ∷ []
-
-abbrev record-of : List ℕ
-record-of = 83 ∷ 69 ∷ 7 ∷ 0 ∷ 1 ∷ 0 ∷ 2 ∷ 0 ∷ 0 ∷ 0 ∷ []
-
-abbrev tags-of : List ℕ
-tags-of = 79 ∷ 80 ∷ 7 ∷ 0 ∷ 67 ∷ 76 ∷ []
-
+-- nothing, and a room
 abbrev none : List ℕ
 none = []
 
@@ -62,7 +54,7 @@ idle-not x w n h g p = g (sym h ∙ ap (λ (l : List ℕ). getD l 0 0) (sym (p .
 
 -- ---- signature records, read
 
-read-entry : readLeft record-of zeros .answer .refused ≡ 0
+read-entry : readLeft singleRecord zeros .answer .refused ≡ 0
 unfolding run stepBy marked recordFault recordsEnd numbersFrom leftBy roomFor
 read-entry = refl
 
@@ -70,23 +62,23 @@ read-nothing : readLeft none zeros .answer .refused ≡ 1
 unfolding run stepBy marked recordFault recordsEnd numbersFrom leftBy roomFor
 read-nothing = refl
 
-read-first : getD (readLeft record-of zeros .room) 0 0 ≡ 7
+read-first : getD (readLeft singleRecord zeros .room) 0 0 ≡ 7
 unfolding run stepBy marked recordFault recordsEnd numbersFrom leftBy roomFor
 read-first = refl
 
 pub read-shut-refusing : (r : List ℕ → List ℕ → Refusal) (after : List ℕ → List ℕ → List ℕ)
     → ((x room : List ℕ) → ReadPromise x room (Written.Refused (r x room)) (after x room)) → ⊥
-read-shut-refusing r after p = not-refused _ _ read-entry _ (p record-of zeros)
+read-shut-refusing r after p = not-refused _ _ read-entry _ (p singleRecord zeros)
 
 pub read-shut-fixed : (w : Written) (after : List ℕ → List ℕ → List ℕ) → ((x room : List ℕ) → ReadPromise x room w (after x room)) → ⊥
-read-shut-fixed w after p = fixed-not _ _ _ _ w read-entry read-nothing (p record-of zeros) (p none zeros)
+read-shut-fixed w after p = fixed-not _ _ _ _ w read-entry read-nothing (p singleRecord zeros) (p none zeros)
 
 pub read-shut-idle : (call : List ℕ → List ℕ → Written) → ((x room : List ℕ) → ReadPromise x room (call x room) room) → ⊥
-read-shut-idle call p = idle-not _ _ 7 read-first (λ z. omega arith) (p record-of zeros)
+read-shut-idle call p = idle-not _ _ 7 read-first (λ z. omega arith) (p singleRecord zeros)
 
 -- ---- signature records, written
 
-write-entry : writeLeft entry zeros .answer .refused ≡ 0
+write-entry : writeLeft single zeros .answer .refused ≡ 0
 unfolding lengthFault bytesFrom namelessFrom writeFault leftBy roomFor
 write-entry = refl
 
@@ -94,23 +86,23 @@ write-nothing : writeLeft none zeros .answer .refused ≡ 1
 unfolding lengthFault bytesFrom namelessFrom writeFault leftBy roomFor
 write-nothing = refl
 
-write-first : getD (writeLeft entry zeros .room) 0 0 ≡ 83
+write-first : getD (writeLeft single zeros .room) 0 0 ≡ 83
 unfolding lengthFault bytesFrom namelessFrom writeFault leftBy roomFor
 write-first = refl
 
 pub write-shut-refusing : (r : List ℕ → List ℕ → Refusal) (after : List ℕ → List ℕ → List ℕ)
     → ((x room : List ℕ) → WritePromise x room (Written.Refused (r x room)) (after x room)) → ⊥
-write-shut-refusing r after p = not-refused _ _ write-entry _ (p entry zeros)
+write-shut-refusing r after p = not-refused _ _ write-entry _ (p single zeros)
 
 pub write-shut-fixed : (w : Written) (after : List ℕ → List ℕ → List ℕ) → ((x room : List ℕ) → WritePromise x room w (after x room)) → ⊥
-write-shut-fixed w after p = fixed-not _ _ _ _ w write-entry write-nothing (p entry zeros) (p none zeros)
+write-shut-fixed w after p = fixed-not _ _ _ _ w write-entry write-nothing (p single zeros) (p none zeros)
 
 pub write-shut-idle : (call : List ℕ → List ℕ → Written) → ((x room : List ℕ) → WritePromise x room (call x room) room) → ⊥
-write-shut-idle call p = idle-not _ _ 83 write-first (λ z. omega arith) (p entry zeros)
+write-shut-idle call p = idle-not _ _ 83 write-first (λ z. omega arith) (p single zeros)
 
 -- ---- a whole tag list, read
 
-tags-entry : tagsLeft Kind.Data tags-of zeros .answer .refused ≡ 0
+tags-entry : tagsLeft Kind.Data singleTags zeros .answer .refused ≡ 0
 unfolding run stepBy marked closedWith namelessAt misnested tagFault tagNext treeEnd tagsFrom opened closed rowsOf oneTree treeOf leftBy roomFor
 tags-entry = refl
 
@@ -118,23 +110,23 @@ tags-nothing : tagsLeft Kind.Data none zeros .answer .refused ≡ 1
 unfolding run stepBy marked closedWith namelessAt misnested tagFault tagNext treeEnd tagsFrom opened closed rowsOf oneTree treeOf leftBy roomFor
 tags-nothing = refl
 
-tags-first : getD (tagsLeft Kind.Data tags-of zeros .room) 0 0 ≡ 7
+tags-first : getD (tagsLeft Kind.Data singleTags zeros .room) 0 0 ≡ 7
 unfolding run stepBy marked closedWith namelessAt misnested tagFault tagNext treeEnd tagsFrom opened closed rowsOf oneTree treeOf leftBy roomFor
 tags-first = refl
 
 pub tags-shut-refusing : (r : List ℕ → List ℕ → Refusal) (after : List ℕ → List ℕ → List ℕ)
     → ((x room : List ℕ) → TagsPromise Kind.Data x room (Written.Refused (r x room)) (after x room)) → ⊥
-tags-shut-refusing r after p = not-refused _ _ tags-entry _ (p tags-of zeros)
+tags-shut-refusing r after p = not-refused _ _ tags-entry _ (p singleTags zeros)
 
 pub tags-shut-fixed : (w : Written) (after : List ℕ → List ℕ → List ℕ) → ((x room : List ℕ) → TagsPromise Kind.Data x room w (after x room)) → ⊥
-tags-shut-fixed w after p = fixed-not _ _ _ _ w tags-entry tags-nothing (p tags-of zeros) (p none zeros)
+tags-shut-fixed w after p = fixed-not _ _ _ _ w tags-entry tags-nothing (p singleTags zeros) (p none zeros)
 
 pub tags-shut-idle : (call : List ℕ → List ℕ → Written) → ((x room : List ℕ) → TagsPromise Kind.Data x room (call x room) room) → ⊥
-tags-shut-idle call p = idle-not _ _ 7 tags-first (λ z. omega arith) (p tags-of zeros)
+tags-shut-idle call p = idle-not _ _ 7 tags-first (λ z. omega arith) (p singleTags zeros)
 
 -- ---- a signature, written as a tag list
 
-back-entry : backLeft Kind.Data entry zeros .answer .refused ≡ 0
+back-entry : backLeft Kind.Data single zeros .answer .refused ≡ 0
 unfolding run turnWithin lengthFault inRange stepOf closeOf nameless secondRoot accepted cell tagsOf tagBytes rowFrom backLeft leftBy roomFor
 back-entry = refl
 
@@ -142,23 +134,23 @@ back-nothing : backLeft Kind.Data none zeros .answer .refused ≡ 1
 unfolding run turnWithin lengthFault inRange stepOf closeOf nameless secondRoot accepted cell tagsOf tagBytes rowFrom backLeft leftBy roomFor
 back-nothing = refl
 
-back-first : getD (backLeft Kind.Data entry zeros .room) 0 0 ≡ 79
+back-first : getD (backLeft Kind.Data single zeros .room) 0 0 ≡ 79
 unfolding run turnWithin lengthFault inRange stepOf closeOf nameless secondRoot accepted cell tagsOf tagBytes rowFrom backLeft leftBy roomFor
 back-first = refl
 
 pub back-shut-refusing : (r : List ℕ → List ℕ → Refusal) (after : List ℕ → List ℕ → List ℕ)
     → ((x room : List ℕ) → BackPromise Kind.Data x room (Written.Refused (r x room)) (after x room)) → ⊥
-back-shut-refusing r after p = not-refused _ _ back-entry _ (p entry zeros)
+back-shut-refusing r after p = not-refused _ _ back-entry _ (p single zeros)
 
 pub back-shut-fixed : (w : Written) (after : List ℕ → List ℕ → List ℕ) → ((x room : List ℕ) → BackPromise Kind.Data x room w (after x room)) → ⊥
-back-shut-fixed w after p = fixed-not _ _ _ _ w back-entry back-nothing (p entry zeros) (p none zeros)
+back-shut-fixed w after p = fixed-not _ _ _ _ w back-entry back-nothing (p single zeros) (p none zeros)
 
 pub back-shut-idle : (call : List ℕ → List ℕ → Written) → ((x room : List ℕ) → BackPromise Kind.Data x room (call x room) room) → ⊥
-back-shut-idle call p = idle-not _ _ 79 back-first (λ z. omega arith) (p entry zeros)
+back-shut-idle call p = idle-not _ _ 79 back-first (λ z. omega arith) (p single zeros)
 
 -- ---- one tree, read from a place on
 
-tree-entry : leftBy (haltNumber (treeScan false false 4096 tags-of 0 .halt)) 0 (numbersIn tags-of 0 (treeScan false false 4096 tags-of 0 .state .count)) zeros .answer .refused ≡ 0
+tree-entry : leftBy (haltNumber (treeScan false false 4096 singleTags 0 .halt)) 0 (numbersIn singleTags 0 (treeScan false false 4096 singleTags 0 .state .count)) zeros .answer .refused ≡ 0
 unfolding run stepBy marked closedWith namelessAt misnested tagFault tagNext treeEnd tagsFrom opened closed rowsOf oneTree treeOf leftBy roomFor
 tree-entry = refl
 
@@ -166,20 +158,20 @@ tree-nothing : leftBy (haltNumber (treeScan false false 4096 none 0 .halt)) 0 (n
 unfolding run stepBy marked closedWith namelessAt misnested tagFault tagNext treeEnd tagsFrom opened closed rowsOf oneTree treeOf leftBy roomFor
 tree-nothing = refl
 
-tree-first : getD (leftBy (haltNumber (treeScan false false 4096 tags-of 0 .halt)) 0 (numbersIn tags-of 0 (treeScan false false 4096 tags-of 0 .state .count)) zeros .room) 0 0 ≡ 7
+tree-first : getD (leftBy (haltNumber (treeScan false false 4096 singleTags 0 .halt)) 0 (numbersIn singleTags 0 (treeScan false false 4096 singleTags 0 .state .count)) zeros .room) 0 0 ≡ 7
 unfolding run stepBy marked closedWith namelessAt misnested tagFault tagNext treeEnd tagsFrom opened closed rowsOf oneTree treeOf leftBy roomFor
 tree-first = refl
 
 pub tree-shut-refusing : (r : List ℕ → List ℕ → Refusal) (after : List ℕ → List ℕ → List ℕ)
     → ((x room : List ℕ) → TreePromise Kind.Data x 0 room (TreeRead.Refused (r x room)) (after x room)) → ⊥
-tree-shut-refusing r after p = let z : _≡_ {A = ℕ} 1 0 = ap (λ (a : Answered). a .refused) (p tags-of zeros .told) ∙ tree-entry in omega arith
+tree-shut-refusing r after p = let z : _≡_ {A = ℕ} 1 0 = ap (λ (a : Answered). a .refused) (p singleTags zeros .told) ∙ tree-entry in omega arith
 
 pub tree-shut-fixed : (r : TreeRead) (after : List ℕ → List ℕ → List ℕ) → ((x room : List ℕ) → TreePromise Kind.Data x 0 room r (after x room)) → ⊥
 tree-shut-fixed r after p =
-    let u : readTold r .answer .refused ≡ 0 = ap (λ (a : Answered). a .refused) (p tags-of zeros .told) ∙ tree-entry in
+    let u : readTold r .answer .refused ≡ 0 = ap (λ (a : Answered). a .refused) (p singleTags zeros .told) ∙ tree-entry in
     let v : readTold r .answer .refused ≡ 1 = ap (λ (a : Answered). a .refused) (p none zeros .told) ∙ tree-nothing in
     omega arith
 
 pub tree-shut-idle : (call : List ℕ → List ℕ → TreeRead) → ((x room : List ℕ) → TreePromise Kind.Data x 0 room (call x room) room) → ⊥
 tree-shut-idle call p =
-    let z : _≡_ {A = ℕ} 0 7 = ap (λ (l : List ℕ). getD l 0 0) (p tags-of zeros .left) ∙ tree-first in omega arith
+    let z : _≡_ {A = ℕ} 0 7 = ap (λ (l : List ℕ). getD l 0 0) (p singleTags zeros .left) ∙ tree-first in omega arith

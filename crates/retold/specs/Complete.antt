@@ -9,7 +9,7 @@ use mathlib.Core.Bool.{Bool, true, false}
 use mathlib.Core.List.{List, [], _∷_, _++_}
 use native.Mathlib.Omega.{arith}
 use lib.ListN.{length, getD, drop, length-drop}
-use lib.Seq.{drop-drop, getD-drop}
+use lib.Seq.{drop-drop}
 use Rattle.turns.specs.Turn.{moved, stay, move, Turned}
 use Rattle.trees.specs.Tree.{Tree, size, whole, NotZero, Allowed, Grown}
 use Rattle.trees.specs.Signature.{signature}
@@ -25,15 +25,10 @@ use Rattle.tag_scan.proofs.TagFaults.{closed-open, closed-none, closed-yes, end
 use Rattle.tag_scan.proofs.Judging.{Tagged, tag-passes}
 use Rattle.tag_writing.proofs.Emit.{tag-bytes-length}
 use Rattle.tag_scan.proofs.TagsFrom.{tags-open, tags-close, tags-none}
+use Rattle.retold.specs.Places.{at-place, first-at}
 use Rattle.retold.specs.Names.{TagNames, opensIn, opens-row, row-names}
 
 module _ (b : List ℕ) where
-  byte : (p i : ℕ) (l : List ℕ) → drop p b ≡ l → getD b (p + i) 0 ≡ getD l i 0
-  byte p i l e = sym (getD-drop p b i 0) ∙ ap (λ (r : List ℕ). getD r i 0) e
-
-  first : (p : ℕ) (l : List ℕ) → drop p b ≡ l → getD b p 0 ≡ getD l 0 0
-  first p l e = let q : p ≡ p + 0 = omega arith in ap (λ (x : ℕ). getD b x 0) q ∙ byte p 0 l e
-
   long : (p : ℕ) (l : List ℕ) → drop p b ≡ l → 1 ≤ length l → p + length l ≡ length b
   long p l e h = omega (arith, ap length e, length-drop p b)
 
@@ -43,13 +38,13 @@ module _ (b : List ℕ) where
   -- the tag that stands there
   opens-there : (p a : ℕ) (r : List ℕ) → drop p b ≡ 79 ∷ 80 ∷ low a ∷ high a ∷ r → (opening b p ≡ true) × (numberAt b (p + 2) ≡ a)
   opens-there p a r e =
-      let two : getD b (p + 2) 0 ≡ low a = byte p 2 _ e in
+      let two : getD b (p + 2) 0 ≡ low a = at-place b p 2 _ e in
       let q : p + 2 + 1 ≡ p + 3 = omega arith in
-      let three : getD b (p + 2 + 1) 0 ≡ high a = ap (λ (x : ℕ). getD b x 0) q ∙ byte p 3 _ e in
-      (marked-yes b p 79 80 (first p _ e) (byte p 1 _ e), omega arith)
+      let three : getD b (p + 2 + 1) 0 ≡ high a = ap (λ (x : ℕ). getD b x 0) q ∙ at-place b p 3 _ e in
+      (marked-yes b p 79 80 (first-at b p _ e) (at-place b p 1 _ e), omega arith)
 
   closes-there : (p : ℕ) (r : List ℕ) → drop p b ≡ 67 ∷ 76 ∷ r → opening b p ≡ false
-  closes-there p r e = let x = first p _ e in marked-first b p 79 80 (λ z. omega (arith, x))
+  closes-there p r e = let x = first-at b p _ e in marked-first b p 79 80 (λ z. omega (arith, x))
 
   -- the tags that stand there are read as these tags
   pub tags-there : (l : List Tag) (p : ℕ) (rest : List ℕ) → drop p b ≡ tagBytes l ++ rest → tagsFrom b (length l) p ≡ l
@@ -80,10 +75,10 @@ module _ (all any : Bool) (most : ℕ) (b : List ℕ) where
   pub open-passes : (st : Scan) (a : ℕ) (r : List ℕ) → drop (st .at) b ≡ 79 ∷ 80 ∷ low a ∷ high a ∷ r → Allowed any a → rootClosed st ≡ false
       → st .count < most → stepBy (tagFault any most b) (tagNext b) st ≡ moved (record { at = st .at + 4; depth = st .depth + 1; count = st .count + 1 })
   open-passes st a r e h n f =
-      let o = marked-yes b (st .at) 79 80 (first b (st .at) _ e) (byte b (st .at) 1 _ e) in
+      let o = marked-yes b (st .at) 79 80 (first-at b (st .at) _ e) (at-place b (st .at) 1 _ e) in
       let l = long b (st .at) _ e (omega arith) in
-      let two : getD b (st .at + 2) 0 ≡ low a = byte b (st .at) 2 _ e in
-      let three : getD b (st .at + 2 + 1) 0 ≡ high a = (let q : st .at + 2 + 1 ≡ st .at + 3 = omega arith in ap (λ (x : ℕ). getD b x 0) q ∙ byte b (st .at) 3 _ e) in
+      let two : getD b (st .at + 2) 0 ≡ low a = at-place b (st .at) 2 _ e in
+      let three : getD b (st .at + 2 + 1) 0 ≡ high a = (let q : st .at + 2 + 1 ≡ st .at + 3 = omega arith in ap (λ (x : ℕ). getD b x 0) q ∙ at-place b (st .at) 3 _ e) in
       let number : numberAt b (st .at + 2) ≡ a = omega arith in
       step-passed (tagFault any most b) (tagNext b) st
       (open-fine any most b st (omega arith) (omega arith) o (omega arith) (named (st .at) a number (h .some)) n f)
@@ -92,9 +87,9 @@ module _ (all any : Bool) (most : ℕ) (b : List ℕ) where
   pub close-passes : (st : Scan) (r : List ℕ) → drop (st .at) b ≡ 67 ∷ 76 ∷ r → (st .depth ≡ 0 → ⊥)
       → stepBy (tagFault any most b) (tagNext b) st ≡ moved (record { at = st .at + 2; depth = st .depth - 1; count = st .count })
   close-passes st r e h =
-      let x = first b (st .at) _ e in
+      let x = first-at b (st .at) _ e in
       let o = marked-first b (st .at) 79 80 (λ z. omega (arith, x)) in
-      let k = marked-yes b (st .at) 67 76 x (byte b (st .at) 1 _ e) in
+      let k = marked-yes b (st .at) 67 76 x (at-place b (st .at) 1 _ e) in
       let l = long b (st .at) _ e (omega arith) in
       step-passed (tagFault any most b) (tagNext b) st (close-fine any most b st (omega arith) (omega arith) o k h)
       ∙ ap moved (next-close any most b st o)

@@ -1,5 +1,6 @@
 -- Demand 2 of the reader of tag lists, over its promise.
 --   Fine w                      the verdict before room: it worked, or 10 was given
+--   number, result              the number that the bytes are refused with before the room is judged, and the numbers that they come to
 --   tags-accepted-exactly       bytes are taken exactly if they are the tag list of a tree of the kind
 --   tags-signature              and what is written then is that tree's signature
 use Prim.Native.Nat.{ℕ, _≤_}
@@ -35,9 +36,13 @@ module _ (k : Kind) (b : List ℕ) where
   abbrev pub number : ℕ
   number = haltNumber (treeScan true (anyName k) (most k) b 0 .halt)
 
+  -- the numbers that the bytes come to
+  abbrev pub result : List ℕ
+  result = numbersIn b 0 (treeScan true (anyName k) (most k) b 0 .state .count)
+
   -- bytes without a refusal are the tag list of a tree, whose signature is the result
   pub fine-taken : Bytes b → number ≡ 0
-      → (y : Taken k b) × (numbersIn b 0 (treeScan true (anyName k) (most k) b 0 .state .count) ≡ signature (y .tree))
+      → (y : Taken k b) × (result ≡ signature (y .tree))
   fine-taken h z =
       let r = scan-sound true (anyName k) (most k) b h 0 z in
       let e = whole-ends (anyName k) (most k) b 0 z in (
@@ -52,16 +57,13 @@ module _ (k : Kind) (b : List ℕ) where
 
   -- the tag list of a tree is not refused, and the result is the tree's signature
   pub taken-fine : (y : Taken k b)
-      → (number ≡ 0) × (numbersIn b 0 (treeScan true (anyName k) (most k) b 0 .state .count) ≡ signature (y .tree))
+      → (number ≡ 0) × (result ≡ signature (y .tree))
   taken-fine y =
       let e = y .is ∙ sym (append-nil (tagBytes (treeTags (y .tree)))) in
       let x = scan-complete true (anyName k) (most k) b (y .tree) 0 [] (y .grown) refl e in
       (x .number-is, ap (numbersIn b 0) (x .count-is) ∙ numbers-there b (y .tree) 0 [] e)
 
   module _ (room : List ℕ) (w : Written) (after : List ℕ) (p : TagsPromise k b room w after) where
-    abbrev result : List ℕ
-    result = numbersIn b 0 (treeScan true (anyName k) (most k) b 0 .state .count)
-
     -- it worked, or 10 was given: nothing else was refused
     fine-number : Fine w → number ≡ 0
     fine-number f = go f (which number 0 result room)

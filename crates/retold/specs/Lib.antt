@@ -2,6 +2,7 @@
 pub mod Rooms
 pub mod Taken
 pub mod Names
+pub mod Places
 pub mod Sound
 pub mod Complete
 pub mod Ends

@@ -8,7 +8,7 @@ use mathlib.Core.Bool.{Bool, true, false, _||_, _&&_}
 use mathlib.Core.List.{List, [], _∷_, _++_, append-nil}
 use native.Mathlib.Omega.{arith}
 use lib.ListN.{length, getD, drop, length-drop}
-use lib.Seq.{drop-cons, drop-drop, getD-drop, drop-length}
+use lib.Seq.{drop-drop, drop-length}
 use lib.Dec.{eqb, ltb}
 use borrow.Author.Tests.{ne-eqb, eqb-true, eqb-false, ltb-true}
 use Rattle.turns.specs.Turn.{moved, Moves, stay, move, Turned}
@@ -19,21 +19,11 @@ use Rattle.bytes_read.proofs.Marks.{marked-is, marked-yes}
 use Rattle.records.proofs.Faults.{Passed, record-passed, record-fine, records-end, records-more}
 use Rattle.bytes_read.proofs.Scanning.{step-passed, step-inverse, Ended, Faulty, scan-comes, scan-ended}
 use Rattle.retold.specs.Taken.{Bytes}
+use Rattle.retold.specs.Places.{at-place, first-at, two-at}
 
 -- ---- two bytes and a number
 
 module _ (b : List ℕ) where
-  at-place : (p i : ℕ) (l : List ℕ) → drop p b ≡ l → getD b (p + i) 0 ≡ getD l i 0
-  at-place p i l e = sym (getD-drop p b i 0) ∙ ap (λ (r : List ℕ). getD r i 0) e
-
-  pair : (p : ℕ) → p + 2 ≤ length b → drop p b ≡ getD b p 0 ∷ getD b (p + 1) 0 ∷ drop (p + 2) b
-  pair p h =
-      let q : suc p ≡ p + 1 = omega arith in
-      let r : suc (p + 1) ≡ p + 2 = omega arith in
-      drop-cons b p 0 (omega arith)
-      ∙ ap (getD b p 0 ∷_) (ap (λ (x : ℕ). drop x b) q ∙ drop-cons b (p + 1) 0 (omega arith)
-      ∙ ap (λ (x : ℕ). getD b (p + 1) 0 ∷ drop x b) r)
-
   -- the number that stands there, as bytes
   number-bytes : Bytes b → (p q : ℕ) → p + 2 ≤ length b → p + 2 ≡ q → drop p b ≡ low (numberAt b p) ∷ high (numberAt b p) ∷ drop q b
   number-bytes h p q l e =
@@ -41,7 +31,7 @@ module _ (b : List ℕ) where
       let y = h (p + 1) in
       let u : getD b p 0 ≡ low (numberAt b p) = omega arith in
       let v : getD b (p + 1) 0 ≡ high (numberAt b p) = omega arith in
-      pair p l ∙ ap (λ (z : ℕ). z ∷ getD b (p + 1) 0 ∷ drop (p + 2) b) u ∙ ap (λ (z : ℕ). low (numberAt b p) ∷ z ∷ drop (p + 2) b) v
+      two-at b p l ∙ ap (λ (z : ℕ). z ∷ getD b (p + 1) 0 ∷ drop (p + 2) b) u ∙ ap (λ (z : ℕ). low (numberAt b p) ∷ z ∷ drop (p + 2) b) v
       ∙ ap (λ (z : ℕ). low (numberAt b p) ∷ high (numberAt b p) ∷ drop z b) e
 
   -- a record that stands there
@@ -49,7 +39,7 @@ module _ (b : List ℕ) where
       → drop p b ≡ entryBytes (numberAt b (p + 2)) (numberAt b (p + 4)) (numberAt b (p + 6)) (numberAt b (p + 8)) (drop (p + 10) b)
   record-bytes h p l m =
       let k = marked-is b p 83 69 m in
-      pair p (omega arith) ∙ ap (λ (z : ℕ). z ∷ getD b (p + 1) 0 ∷ drop (p + 2) b) (k .0) ∙ ap (λ (z : ℕ). 83 ∷ z ∷ drop (p + 2) b) (k .1)
+      two-at b p (omega arith) ∙ ap (λ (z : ℕ). z ∷ getD b (p + 1) 0 ∷ drop (p + 2) b) (k .0) ∙ ap (λ (z : ℕ). 83 ∷ z ∷ drop (p + 2) b) (k .1)
       ∙ ap (λ (r : List ℕ). 83 ∷ 69 ∷ r) (number-bytes h (p + 2) (p + 4) (omega arith) (omega arith)
       ∙ ap (λ (r : List ℕ). low (numberAt b (p + 2)) ∷ high (numberAt b (p + 2)) ∷ r) (number-bytes h (p + 4) (p + 6) (omega arith) (omega arith)
       ∙ ap (λ (r : List ℕ). low (numberAt b (p + 4)) ∷ high (numberAt b (p + 4)) ∷ r) (number-bytes h (p + 6) (p + 8) (omega arith) (omega arith)
@@ -174,8 +164,8 @@ entries-all s k (suc n) e =
     let a : k + 1 + 1 ≡ k + 2 = omega arith in
     let c : k + 2 + 1 ≡ k + 3 = omega arith in
     let d : k + 2 + 2 ≡ k + 4 = omega arith in
-    sym (pair s k (omega arith)
-    ∙ ap (λ (r : List ℕ). getD s k 0 ∷ getD s (k + 1) 0 ∷ r) (pair s (k + 2) (omega arith)
+    sym (two-at s k (omega arith)
+    ∙ ap (λ (r : List ℕ). getD s k 0 ∷ getD s (k + 1) 0 ∷ r) (two-at s (k + 2) (omega arith)
     ∙ ap (λ (x : ℕ). getD s (k + 2) 0 ∷ getD s x 0 ∷ drop (k + 2 + 2) s) c
     ∙ ap (λ (x : ℕ). getD s (k + 2) 0 ∷ getD s (k + 3) 0 ∷ drop x s) d
     ∙ ap (λ (r : List ℕ). getD s (k + 2) 0 ∷ getD s (k + 3) 0 ∷ r) (sym (entries-all s (k + 4) n (omega arith)))))
@@ -225,7 +215,7 @@ module _ (s b : List ℕ) (words : (i : ℕ) → getD s i 0 < 65536) where
       start = record { at = p; depth = 0; count = c }
 
       first : getD b p 0 ≡ 83
-      first = let q : p ≡ p + 0 = omega arith in ap (λ (x : ℕ). getD b x 0) q ∙ at-place b p 0 _ e
+      first = first-at b p _ e
 
       name-is : numberAt b (p + 2) ≡ getD s k 0
       name-is = number-there p 2 3 (getD s k 0) _ e refl refl refl (words k)

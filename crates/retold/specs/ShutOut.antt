@@ -16,15 +16,16 @@ use Rattle.checking.specs.declared.Kind.{Kind}
 use Rattle.checking.specs.declared.Refusal.{Refusal}
 use Rattle.checking.specs.declared.Written.{Written}
 use Rattle.checking.specs.Kinds.{anyName, most}
+use Rattle.checked.specs.Menus.{singleTags}
 use Rattle.checked.specs.Apart.{answered-apart}
 use Rattle.checking.specs.Room.{Left, frontWith}
-use Rattle.tag_scan.specs.TagLists.{tagBytes, treeScan, numbersIn}
+use Rattle.tag_scan.specs.TagLists.{tagBytes}
 use Rattle.tag_lists.specs.Readers.{TagsPromise}
 use Rattle.tag_writing.proofs.Emit.{tag-bytes-length}
 use Rattle.retold.specs.Taken.{Bytes, Taken}
 use Rattle.retold.specs.Rooms.{Case, refused, short, written, which, ten-given, refused-writes-nothing}
 use Rattle.retold.specs.Ends.{never-ten}
-use Rattle.retold.specs.Exact.{number, fine-taken, taken-fine, tags-signature}
+use Rattle.retold.specs.Exact.{number, result, fine-taken, taken-fine, tags-signature}
 
 -- the refusal of a room that is too small
 abbrev pub ten : Refusal
@@ -44,19 +45,16 @@ TagsTwo k call after = (b room : List ℕ) → Bytes b → Reads k b room (call 
 -- ---- ours meets it
 
 module _ (k : Kind) (b room : List ℕ) (w : Written) (after : List ℕ) (h : Bytes b) (p : TagsPromise k b room w after) where
-  abbrev result : List ℕ
-  result = numbersIn b 0 (treeScan true (anyName k) (most k) b 0 .state .count)
-
   is-long : (y : Taken k b) → length room < length (signature (y .tree)) → (w ≡ Written.Refused ten) × (after ≡ room)
   is-long y l =
       let f = taken-fine k b y in
-      let q = ten-given (number k b) 0 result room w after p (f .0) (subst (λ (x : List ℕ). length room < length x) (sym (f .1)) l) in
-      (q, refused-writes-nothing (number k b) 0 result room w after p ten q)
+      let q = ten-given (number k b) 0 (result k b) room w after p (f .0) (subst (λ (x : List ℕ). length room < length x) (sym (f .1)) l) in
+      (q, refused-writes-nothing (number k b) 0 (result k b) room w after p ten q)
 
   is-other : (Taken k b → ⊥) → (r : Refusal) × (w ≡ Written.Refused r) × (r .number ≡ 10 → ⊥) × (after ≡ room)
-  is-other n = go (which (number k b) 0 result room)
+  is-other n = go (which (number k b) 0 (result k b) room)
     where
-      go : Case (number k b) 0 result room → (r : Refusal) × (w ≡ Written.Refused r) × (r .number ≡ 10 → ⊥) × (after ≡ room)
+      go : Case (number k b) 0 (result k b) room → (r : Refusal) × (w ≡ Written.Refused r) × (r .number ≡ 10 → ⊥) × (after ≡ room)
       go (refused z e) =
           let r : Refusal = record { number = number k b; entry = record { 0 = 0 } } in
           (r, answered-apart w (Written.Refused r) (p .told ∙ ap (λ (x : Left). x .answer) e), never-ten true (anyName k) (most k) b 0, p .left ∙ ap (λ (x : Left). x .room) e)
@@ -72,14 +70,11 @@ ours-tags k call after p b room h = promised-reads k b room (call b room) (after
 
 -- ---- the wrong programs do not
 
--- one element named 7, as document 01's starred entry 7,1,2,0, and a room that is just long enough
-abbrev one : List ℕ
-one = 79 ∷ 80 ∷ 7 ∷ 0 ∷ 67 ∷ 76 ∷ []
-
+-- a room that is just long enough for document 01's starred entry 7,1,2,0
 abbrev zeros : List ℕ
 zeros = 0 ∷ 0 ∷ 0 ∷ 0 ∷ []
 
-one-bytes : Bytes one
+one-bytes : Bytes singleTags
 one-bytes zero = omega arith
 one-bytes (suc zero) = omega arith
 one-bytes (suc (suc zero)) = omega arith
@@ -88,7 +83,7 @@ one-bytes (suc (suc (suc (suc zero)))) = omega arith
 one-bytes (suc (suc (suc (suc (suc zero))))) = omega arith
 one-bytes (suc (suc (suc (suc (suc (suc i)))))) = omega arith
 
-pub one-taken : Taken Kind.Data one
+pub one-taken : Taken Kind.Data singleTags
 unfolding tagBytes tagsOf
 one-taken = record {
   tree = record { name = 7; below = none };
@@ -106,13 +101,13 @@ apart l r e = let z : _≡_ {A = ℕ} 0 1 = cc in omega arith
 -- refusing everything, each time as it likes, 10 too
 pub shut-out-refusing : (x : List ℕ → List ℕ → Refusal) (after : List ℕ → List ℕ → List ℕ) → TagsTwo Kind.Data (λ b room. Written.Refused (x b room)) after → ⊥
 unfolding one-taken
-shut-out-refusing x after p = apart _ (x one zeros) (sym (p one zeros one-bytes .fits one-taken (omega arith) .0))
+shut-out-refusing x after p = apart _ (x singleTags zeros) (sym (p singleTags zeros one-bytes .fits one-taken (omega arith) .0))
 
 -- one fixed answer, whatever it leaves
 pub shut-out-fixed : (w : Written) (after : List ℕ → List ℕ → List ℕ) → TagsTwo Kind.Data (λ b room. w) after → ⊥
 unfolding one-taken
 shut-out-fixed w after p =
-    let e = p one zeros one-bytes .fits one-taken (omega arith) .0 in
+    let e = p singleTags zeros one-bytes .fits one-taken (omega arith) .0 in
     let q = p [] zeros (λ i. omega arith) .other nothing-taken in
     apart _ (q .0) (sym e ∙ q .1)
 
@@ -120,6 +115,6 @@ shut-out-fixed w after p =
 pub shut-out-idle : (call : List ℕ → List ℕ → Written) → TagsTwo Kind.Data call (λ b room. room) → ⊥
 unfolding one-taken
 shut-out-idle call p =
-    let q = p one zeros one-bytes .fits one-taken (omega arith) .1 in
+    let q = p singleTags zeros one-bytes .fits one-taken (omega arith) .1 in
     let z : _≡_ {A = ℕ} 0 7 = ap (λ (l : List ℕ). getD l 0 0) q in
     omega arith

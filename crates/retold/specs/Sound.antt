@@ -9,7 +9,6 @@ use mathlib.Core.Bool.{Bool, true, false}
 use mathlib.Core.List.{List, _∷_, _++_}
 use native.Mathlib.Omega.{arith}
 use lib.ListN.{length, getD, drop}
-use lib.Seq.{drop-cons}
 use borrow.Author.Tests.{eqb-false}
 use Rattle.turns.specs.Turn.{stay, move}
 use Rattle.trees.specs.Tree.{Tree, size, whole, NotZero, Allowed, Grown}
@@ -24,6 +23,7 @@ use Rattle.tag_scan.proofs.TagsFrom.{tags-open, tags-close, tags-none}
 use Rattle.tag_lists.proofs.Build.{whole-numbers}
 use Rattle.tag_scan.proofs.Judging.{Tagged, stepped, read-whole}
 use Rattle.retold.specs.Taken.{Bytes}
+use Rattle.retold.specs.Places.{two-at}
 use Rattle.retold.specs.Names.{TagNames, names-row}
 
 -- two bytes make a number, and it has these two bytes
@@ -32,15 +32,6 @@ number-low x y h k = omega arith
 
 number-high : (x y : ℕ) → x < 256 → y < 256 → high (x + 256 * y) ≡ y
 number-high x y h k = omega arith
-
--- two bytes at a place
-two : (b : List ℕ) (p : ℕ) → p + 2 ≤ length b → drop p b ≡ getD b p 0 ∷ getD b (p + 1) 0 ∷ drop (p + 2) b
-two b p h =
-    let q : suc p ≡ p + 1 = omega arith in
-    let r : suc (p + 1) ≡ p + 2 = omega arith in
-    drop-cons b p 0 (omega arith)
-    ∙ ap (getD b p 0 ∷_) (ap (λ (x : ℕ). drop x b) q ∙ drop-cons b (p + 1) 0 (omega arith)
-    ∙ ap (λ (x : ℕ). getD b (p + 1) 0 ∷ drop x b) r)
 
 not-zero : (any : Bool) (b : List ℕ) (p : ℕ) → namelessAt any b p ≡ false → NotZero any (numberAt b (p + 2))
 unfolding namelessAt
@@ -70,9 +61,9 @@ module _ (all any : Bool) (most : ℕ) (b : List ℕ) (bytes : Bytes b) where
   open-bytes p rest h l e =
       let m = marked-is b p 79 80 h in
       let q : p + 2 + 2 ≡ p + 4 = omega arith in
-      two b p (omega arith)
+      two-at b p (omega arith)
       ∙ ap (λ (x : ℕ). x ∷ getD b (p + 1) 0 ∷ drop (p + 2) b) (m .0) ∙ ap (λ (x : ℕ). 79 ∷ x ∷ drop (p + 2) b) (m .1)
-      ∙ ap (λ (r : List ℕ). 79 ∷ 80 ∷ r) (two b (p + 2) (omega arith)
+      ∙ ap (λ (r : List ℕ). 79 ∷ 80 ∷ r) (two-at b (p + 2) (omega arith)
       ∙ ap (λ (x : ℕ). x ∷ getD b (p + 2 + 1) 0 ∷ drop (p + 2 + 2) b) (sym (number-low _ _ (bytes (p + 2)) (bytes (p + 2 + 1))))
       ∙ ap (λ (x : ℕ). low (numberAt b (p + 2)) ∷ x ∷ drop (p + 2 + 2) b) (sym (number-high _ _ (bytes (p + 2)) (bytes (p + 2 + 1))))
       ∙ ap (λ (r : List ℕ). low (numberAt b (p + 2)) ∷ high (numberAt b (p + 2)) ∷ r) (ap (λ (x : ℕ). drop x b) q ∙ e))
@@ -80,7 +71,7 @@ module _ (all any : Bool) (most : ℕ) (b : List ℕ) (bytes : Bytes b) where
   close-bytes : (p : ℕ) (rest : List ℕ) → closing b p ≡ true → p + 2 ≤ length b → drop (p + 2) b ≡ rest → drop p b ≡ 67 ∷ 76 ∷ rest
   close-bytes p rest h l e =
       let m = marked-is b p 67 76 h in
-      two b p l ∙ ap (λ (x : ℕ). x ∷ getD b (p + 1) 0 ∷ drop (p + 2) b) (m .0) ∙ ap (λ (x : ℕ). 67 ∷ x ∷ drop (p + 2) b) (m .1)
+      two-at b p l ∙ ap (λ (x : ℕ). x ∷ getD b (p + 1) 0 ∷ drop (p + 2) b) (m .0) ∙ ap (λ (x : ℕ). 67 ∷ x ∷ drop (p + 2) b) (m .1)
       ∙ ap (λ (r : List ℕ). 67 ∷ 76 ∷ r) e
 
   pub passed-bytes : {k : ℕ} {st to : Scan} → Tagged all any most b k st to

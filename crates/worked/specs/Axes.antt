@@ -1,14 +1,9 @@
 -- The starred cases of the axes, on Ten: refused or not, the refusal's number, length and entry, and the lent room at the end, which held 99s.
 use Prim.Native.Nat.{ℕ}
 use mathlib.Core.List.{List, [], _∷_}
-use Rattle.checking.specs.Room.{Left}
 use Rattle.marks.specs.Axis.{axisAnswer}
 use Rattle.checked.specs.Menus.{ten}
-use Rattle.worked.specs.Case.{Case}
-
--- what an axis call leaves, in numbers
-abbrev pub leaves : Left → List ℕ
-leaves x = x .answer .refused ∷ x .answer .number ∷ x .answer .length ∷ x .answer .entry ∷ x .room
+use Rattle.worked.specs.Case.{Case, leaves}
 
 -- an axis of one context of Ten, any name, no position
 abbrev pub stepped : ℕ → ℕ → List ℕ → List ℕ → Case

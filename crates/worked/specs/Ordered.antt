@@ -2,17 +2,12 @@
 use Prim.Native.Nat.{ℕ}
 use mathlib.Core.List.{List, [], _∷_}
 use Rattle.checked.specs.Menus.{ten, five, tarts, fork, ones}
-use Rattle.checking.specs.Room.{Left}
 use Rattle.ordered.specs.Promise.{orderedOf}
-use Rattle.worked.specs.Case.{Case}
-
--- a call in numbers
-abbrev pub left : Left → List ℕ
-left l = l .answer .refused ∷ l .answer .number ∷ l .answer .length ∷ l .answer .entry ∷ l .room
+use Rattle.worked.specs.Case.{Case, leaves}
 
 -- the twig w asked of s for what comes after g, with a lent room
 abbrev pub asked : List ℕ → List ℕ → List ℕ → List ℕ → List ℕ → Case
-asked s w g room wanted = record { got = left (orderedOf s w g room); wanted = wanted }
+asked s w g room wanted = record { got = leaves (orderedOf s w g room); wanted = wanted }
 
 -- "one ordered answer, 8 9 10"; "none of either kind"; "one ordered answer, 1 2 4 5"; "no answer of either kind"
 abbrev pub cases : List Case

@@ -6,11 +6,10 @@ use lib.ListN.{length, replicate, take}
 use Rattle.trees.specs.Signature.{entries}
 use Rattle.checking.specs.declared.Kind.{Kind}
 use Rattle.checked.specs.Menus.{ten, five}
-use Rattle.checking.specs.Room.{Left}
 use Rattle.records.specs.Records.{readLeft, writeLeft}
 use Rattle.tag_lists.specs.Readers.{tagsLeft}
 use Rattle.tag_writing.specs.TagsBack.{backLeft}
-use Rattle.worked.specs.Case.{Case}
+use Rattle.worked.specs.Case.{Case, leaves}
 
 abbrev tenTags : List ℕ
 tenTags =
@@ -23,9 +22,6 @@ fiveTags =
     79 ∷ 80 ∷ 1 ∷ 0 ∷ 79 ∷ 80 ∷ 1 ∷ 0 ∷ 67 ∷ 76 ∷ 79 ∷ 80 ∷ 1 ∷ 0 ∷ 79 ∷ 80 ∷ 1 ∷ 0 ∷ 67 ∷ 76 ∷ 79 ∷ 80 ∷ 1 ∷ 0 ∷ 67 ∷ 76 ∷ 67 ∷
     76 ∷ 67 ∷ 76 ∷ []
 
-abbrev left : Left → List ℕ
-left x = x .answer .refused ∷ x .answer .number ∷ x .answer .length ∷ x .answer .entry ∷ x .room
-
 -- a room one longer than the result, full of nines
 abbrev room : List ℕ → List ℕ
 room result = replicate (suc (length result)) 9
@@ -37,17 +33,17 @@ done result = 0 ∷ 0 ∷ length result ∷ 0 ∷ (result ++ (9 ∷ []))
 -- a tag list read as a signature, and a signature written as a tag list
 abbrev there : List ℕ → List ℕ → Case
 there b s = record {
-  got = left (tagsLeft Kind.Data b (room s));
+  got = leaves (tagsLeft Kind.Data b (room s));
   wanted = done s;
 }
 
 abbrev back : List ℕ → List ℕ → Case
-back s b = record { got = left (backLeft Kind.Data s (room b)); wanted = done b }
+back s b = record { got = leaves (backLeft Kind.Data s (room b)); wanted = done b }
 
 -- the same for signature records, written and read back
 abbrev records : List ℕ → Case
 records s = record {
-  got = left (readLeft (take (10 * entries s) (writeLeft s (replicate (10 * entries s) 9) .room)) (room s));
+  got = leaves (readLeft (take (10 * entries s) (writeLeft s (replicate (10 * entries s) 9) .room)) (room s));
   wanted = done s;
 }
 
