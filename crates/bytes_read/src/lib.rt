@@ -1,7 +1,7 @@
 // Layer 3, bytes_read: what the calls on records and tag lists share, that is marks and numbers in bytes and the answer of a refused call.
 ghost use mathlib.Core.Path.{_≡_};
-ghost use Prim.Native.Nat.{ℕ, _+_};
-ghost use lib.ListN.{length, getD};
+ghost use Prim.Native.Nat.{_+_};
+ghost use lib.ListN.{getD};
 ghost use Rattle.bytes_read.specs.Bytes.{numberAt, marked};
 use checking::PreRank;
 use checking::Refusal;

@@ -4,15 +4,15 @@
 --   step-ranges       a step keeps the ranges
 --   step-grows        a step makes next + closed one more
 --   step-before       a step is taken before the end only
-use Prim.Native.Nat.{ℕ, zero, suc, _+_, _-_, _≤_, _<_}
-use mathlib.Core.Path.{_≡_, refl, ap, _∙_, sym}
+use Prim.Native.Nat.{ℕ, _+_, _-_, _≤_, _<_}
+use mathlib.Core.Path.{_≡_, refl}
 use mathlib.Core.Logic.{_⊎_, inl, inr}
 use mathlib.Core.Bool.{Bool, true, false}
 use lib.Dec.{ltb, leb, eqb}
 use native.Mathlib.Omega.{arith}
-use borrow.Author.Tests.{ltb-true, ltb-false, leb-true, leb-false, eqb-true, eqb-false}
+use borrow.Author.Tests.{ltb-true, leb-true, leb-false, eqb-true, eqb-false}
 use Rattle.turns.specs.Pick.{pick}
-use Rattle.turns.specs.Turn.{Next, moved, answered, refused}
+use Rattle.turns.specs.Turn.{moved, answered, refused}
 use Rattle.trees.specs.Signature.{Entries}
 use Rattle.checking.specs.declared.CheckState.{CheckState}
 use Rattle.checking.specs.Rule.{closeOf, closedOf, openOf, stepOf, nameless, secondRoot, accepted, Ranges}

@@ -2,8 +2,8 @@
 --   moves-ranges, moves-grow    steps keep the ranges, and each makes next + closed one more
 --   turn-…                      which case of a turn holds under which facts
 --   whole-stops                 the whole check ends or refuses
-use Prim.Native.Nat.{ℕ, zero, suc, _+_, _-_, _*_, _/_, _%_, _≤_, _<_}
-use mathlib.Core.Path.{_≡_, refl, ap, _∙_, sym}
+use Prim.Native.Nat.{ℕ, _+_, _*_, _/_, _%_, _≤_, _<_}
+use mathlib.Core.Path.{_≡_, refl, ap, sym}
 use mathlib.Core.Logic.{_⊎_, inl, inr}
 use mathlib.Core.List.{List}
 use mathlib.Core.Bool.{Bool, true, false, not, _||_, false≢true}

@@ -1,7 +1,6 @@
 // Layer 2, checking: ranks, refusals and stop reasons, and the check of a signature, in turns and whole.
 ghost use mathlib.Core.Path.{_≡_};
-ghost use mathlib.Core.Bool.{Bool};
-ghost use Prim.Native.Nat.{ℕ, _+_, _*_, _-_, _<_, _≤_};
+ghost use Prim.Native.Nat.{_+_, _*_, _-_, _<_};
 ghost use Rattle.trees.specs.Signature.{width};
 ghost use Rattle.checking.specs.Kinds.{anyName, most};
 ghost use Rattle.checking.specs.Stops.{told};

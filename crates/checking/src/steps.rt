@@ -1,7 +1,6 @@
 // The step of the check in plain numbers: next entry i, innermost open element top, number closed. The state is put together by the public calls.
 ghost use mathlib.Core.Path.{_≡_};
-ghost use mathlib.Core.Bool.{Bool};
-ghost use Prim.Native.Nat.{ℕ, _+_, _*_, _-_, _<_, _≤_};
+ghost use Prim.Native.Nat.{_+_, _*_, _-_, _<_, _≤_};
 ghost use lib.ListN.{length};
 ghost use Rattle.trees.specs.Signature.{cell, entriesOf, width};
 ghost use Rattle.checking.specs.Rule.{Ranges, at, closeOf, stepOf};

@@ -1,6 +1,4 @@
 // Layer 8, kiosk: the C interface. It gives the calls on bare numbers the names that C knows them by.
-ghost use mathlib.Core.Path.{_≡_};
-ghost use Prim.Native.Nat.{ℕ};
 ghost use Rattle.record_calls.specs.Records.{ReadNumbers, WriteNumbers, TagsNumbers, BackNumbers};
 ghost use Rattle.signature_calls.specs.Check.{CheckTurnPromise};
 ghost use Rattle.signature_calls.specs.Axes.{LevelNumbers, PlaceNumbers, AxisNumbers};

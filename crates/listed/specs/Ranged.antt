@@ -21,7 +21,6 @@ use Rattle.walks.specs.Ranges.{reached-least}
 use Rattle.walks.specs.Potential.{Bounded}
 use Rattle.walks.specs.Room.{imageOf, roomOf, image-unset, image-top}
 use Rattle.walk_ranges.specs.declared.Phase.{Phase}
-use Rattle.walking.specs.declared.Walk.{Walk}
 use Rattle.preparing.specs.Masks.{every}
 use Rattle.walk_ranges.specs.Ranges.{image, placed, imageFits, phaseFits}
 use Rattle.walking.specs.Walking.{at, inRange}

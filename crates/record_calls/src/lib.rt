@@ -1,6 +1,4 @@
 // Layer 6, record_calls: the calls on signature records and tag lists, on bare numbers.
-ghost use mathlib.Core.Path.{_≡_};
-ghost use Prim.Native.Nat.{ℕ};
 ghost use Rattle.record_calls.specs.Records.{ReadNumbers, WriteNumbers, TagsNumbers, BackNumbers};
 use telling::kind_of;
 use telling::tell_written;

@@ -1,6 +1,4 @@
 // Layer 7, signature_calls: the calls on one signature, on bare numbers: the check, level, block and axes.
-ghost use mathlib.Core.Path.{_≡_};
-ghost use Prim.Native.Nat.{ℕ};
 ghost use Rattle.signature_calls.specs.Check.{CheckTurnPromise};
 ghost use Rattle.signature_calls.specs.Axes.{LevelNumbers, PlaceNumbers, AxisNumbers};
 use checking::PreRank;

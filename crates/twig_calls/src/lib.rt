@@ -1,6 +1,4 @@
 // Layer 7, twig_calls: the calls on a signature and a twig, on bare numbers: the ordered question, preparing and walking.
-ghost use mathlib.Core.Path.{_≡_};
-ghost use Prim.Native.Nat.{ℕ};
 ghost use Rattle.twig_calls.specs.Ordered.{OrderedNumbers};
 ghost use Rattle.twig_calls.specs.Prepare.{StartNumbers, PrepareTurnPromise};
 ghost use Rattle.twig_calls.specs.Walk.{WalkFreshPromise, WalkTurnPromise};

@@ -1,6 +1,5 @@
 // Layer 6, walk_numbers: a saved walk as nineteen numbers: sixteen images, node, candidate, phase.
 ghost use mathlib.Core.Path.{_≡_};
-ghost use Prim.Native.Nat.{ℕ};
 ghost use Rattle.walk_numbers.specs.Walk.{phaseOf, phaseNumber, walkOf, walkNumbers, keptOf, WalkSaid};
 use checking::PreRank;
 use telling::tell_stop;
