@@ -13,7 +13,7 @@ use native.Mathlib.Decide.{ℕ-discrete}
 use lib.ListN.{length, length-reverse}
 use Rattle.trees.specs.Signature.{Entries}
 use Rattle.trees.specs.Facts.{Facts}
-use Rattle.trees.specs.Names.{passes, Passes, passes-true, true-passes}
+use Rattle.trees.specs.Names.{Passes, passes-true, true-passes}
 use Rattle.walks.specs.Every.{Pairs, pairs-weaken, pairs-unique}
 use Rattle.walks.specs.Walking.{Choices, answersFrom}
 use Rattle.walks.specs.Answers.{Fits, Good}
@@ -22,20 +22,20 @@ use Rattle.walks.specs.Listing.{answers-ascending, answers-unique}
 use Rattle.walks.specs.Potential.{Bounded}
 use Rattle.walks.specs.Preorder.{Smaller, smaller-never, smaller-trans, ascending-smaller}
 use Rattle.walks.specs.Room.{imageOf, image-zero}
-use Rattle.walks.specs.Image.{image, Below, reverse-image}
+use Rattle.walks.specs.Image.{image, Below, passOf, reverse-image}
 use Rattle.listed.specs.Loose.{LooseAnswer}
 use Rattle.listed.specs.Matching.{Match, match, answer-match}
-use Rattle.listed.specs.Choosing.{parentOf, choices, choices-plain, byName, looseAnswers, NodeFits, end-high, nodes-of, of-nodes}
+use Rattle.listed.specs.Choosing.{parentOf, choices, choices-plain, looseAnswers, NodeFits, end-high, nodes-of, of-nodes}
 
 module _ (n m : ℕ) (e w : Entries) (tree : Facts n e) (twig : Facts m w) where
   abbrev names : Choices
-  names = choices n e w (byName e w)
+  names = choices n e w (passOf e w)
 
   -- the image of a node's twig parent
   parent-image : (z : List ℕ) (q : ℕ) → 1 < q → q ≤ m → image (reverse z) (w .fa q) ≡ imageOf z (w .fa q)
   parent-image z q a b = reverse-image z (w .fa q) (twig .inner q a b)
 
-  nodes-answer : (z : List ℕ) → length z ≡ m → ((q : ℕ) → 1 ≤ q → q ≤ m → NodeFits n m e w tree twig (byName e w) z q)
+  nodes-answer : (z : List ℕ) → length z ≡ m → ((q : ℕ) → 1 ≤ q → q ≤ m → NodeFits n m e w tree twig (passOf e w) z q)
       → LooseAnswer n m e w (reverse z)
   nodes-answer z k h = record {
     nodes = length-reverse z ∙ k;
@@ -52,7 +52,7 @@ module _ (n m : ℕ) (e w : Entries) (tree : Facts n e) (twig : Facts m w) where
         rw (reverse-image z q (omega arith), parent-image z q a b) (record { after = f .above; before = f .within a });
   }
 
-  answer-nodes : (z : List ℕ) → LooseAnswer n m e w (reverse z) → (q : ℕ) → 1 ≤ q → q ≤ m → NodeFits n m e w tree twig (byName e w) z q
+  answer-nodes : (z : List ℕ) → LooseAnswer n m e w (reverse z) → (q : ℕ) → 1 ≤ q → q ≤ m → NodeFits n m e w tree twig (passOf e w) z q
   answer-nodes z h q a b = record {
     above = parent-less (ℕ-discrete q 1);
     high = rw i at (h .each q a b .high);
@@ -74,9 +74,9 @@ module _ (n m : ℕ) (e w : Entries) (tree : Facts n e) (twig : Facts m w) where
   unfolding looseAnswers
   loose-sound l h =
       let z = Memᴰ·of-map reverse (answersFrom names m []) h in
-      let i = plain-exactly names (choices-plain n e w (byName e w)) m (z .0) .0 (z .1) in
+      let i = plain-exactly names (choices-plain n e w (passOf e w)) m (z .0) .0 (z .1) in
       subst (LooseAnswer n m e w) (z .2)
-      (nodes-answer (z .0) (i .0) (λ q a b. nodes-of n m e w tree twig (byName e w) (z .0) (omega (arith, i .0)) (i .1) q a
+      (nodes-answer (z .0) (i .0) (λ q a b. nodes-of n m e w tree twig (passOf e w) (z .0) (omega (arith, i .0)) (i .1) q a
       (omega (arith, i .0))))
 
   -- and every loose answer is listed
@@ -86,15 +86,15 @@ module _ (n m : ℕ) (e w : Entries) (tree : Facts n e) (twig : Facts m w) where
       let z = reverse l in
       let k : length z ≡ m = length-reverse l ∙ h .nodes in
       let g : LooseAnswer n m e w (reverse z) = subst (LooseAnswer n m e w) (sym (reverse-reverse l)) h in
-      let i = of-nodes n m e w tree twig (byName e w) z (omega arith) (λ q a b. answer-nodes z g q a (omega arith)) in
+      let i = of-nodes n m e w tree twig (passOf e w) z (omega arith) (λ q a b. answer-nodes z g q a (omega arith)) in
       subst (λ (y : List ℕ). List·Memᴰ y (map reverse (answersFrom names m []))) (reverse-reverse l)
-      (Memᴰ·map reverse (plain-exactly names (choices-plain n e w (byName e w)) m z .1 (k, i)))
+      (Memᴰ·map reverse (plain-exactly names (choices-plain n e w (passOf e w)) m z .1 (k, i)))
 
   -- ascending, each smaller than those after it
   pub loose-ascending : Pairs Smaller (looseAnswers n m e w)
   unfolding looseAnswers
   loose-ascending =
-      ascending-smaller (answersFrom names m []) (answers-ascending names (plain-rising names (choices-plain n e w (byName e w))) m [] tt)
+      ascending-smaller (answersFrom names m []) (answers-ascending names (plain-rising names (choices-plain n e w (passOf e w))) m [] tt)
 
   -- so none is listed twice
   pub loose-once : Pairs (λ y z. y ≡ z → ⊥) (looseAnswers n m e w)
@@ -121,7 +121,7 @@ module _ (n m : ℕ) (e w : Entries) (tree : Facts n e) (twig : Facts m w) where
     abbrev walked : Choices
     walked = choices n e w pass
 
-    bits-names : (z : List ℕ) (q : ℕ) → 1 ≤ q → q ≤ m → NodeFits n m e w tree twig pass z q → NodeFits n m e w tree twig (byName e w) z q
+    bits-names : (z : List ℕ) (q : ℕ) → 1 ≤ q → q ≤ m → NodeFits n m e w tree twig pass z q → NodeFits n m e w tree twig (passOf e w) z q
     bits-names z q a b h = record {
       above = h .above;
       high = h .high;
@@ -145,17 +145,17 @@ module _ (n m : ℕ) (e w : Entries) (tree : Facts n e) (twig : Facts m w) where
     -- the walk's answers are the loose answers
     walked-range : (z : List ℕ) → length z ≡ m → InRange walked z ↔ InRange names z
     walked-range z k = (
-      λ h. of-nodes n m e w tree twig (byName e w) z (omega arith)
+      λ h. of-nodes n m e w tree twig (passOf e w) z (omega arith)
           (λ q a b. bits-names z q a (omega arith) (nodes-of n m e w tree twig pass z (omega arith) h q a b)),
       λ h.
-          let g = nodes-answer z k (λ q a b. nodes-of n m e w tree twig (byName e w) z (omega arith) h q a (omega arith)) in
+          let g = nodes-answer z k (λ q a b. nodes-of n m e w tree twig (passOf e w) z (omega arith) h q a (omega arith)) in
           of-nodes n m e w tree twig pass z (omega arith) (λ q a b. names-bits z g q a (omega arith)),
     )
 
     pub bits-same : answersFrom walked m [] ≡ answersFrom names m []
     bits-same =
         let p = choices-plain n e w pass in
-        let r = choices-plain n e w (byName e w) in
+        let r = choices-plain n e w (passOf e w) in
         answers-unique names (plain-rising names r) m (answersFrom walked m []) (answers-ascending walked (plain-rising walked p) m [] tt)
         (λ z.
         let x = plain-exactly walked p m z in

@@ -2,7 +2,6 @@
 --   parentOf w xs      the image of the next node's twig parent, by the images set before it
 --   endAfter n e w xs  one past the range of the next node
 --   choices n e w pass the walk, where pass tests a candidate for a node
---   byName e w         the test by names alone
 --   looseAnswers n m e w   all loose answers, ascending, in twig preorder: by names alone, so that no table is named
 --   choices-plain      it goes by ones
 --   NodeFits           what the walk asks of one node's image
@@ -17,7 +16,7 @@ use native.Mathlib.Decide.{ℕ-discrete}
 use lib.ListN.{length}
 use Rattle.trees.specs.Signature.{Entries}
 use Rattle.trees.specs.Facts.{Facts}
-use Rattle.trees.specs.Names.{passes}
+use Rattle.walks.specs.Image.{passOf}
 use Rattle.walks.specs.Walking.{Choices, answersFrom}
 use Rattle.walks.specs.Plain.{Plain, Inside, InRange}
 use Rattle.walks.specs.Room.{imageOf, image-top, image-down}
@@ -43,13 +42,9 @@ choices n e w pass = record {
 pub choices-plain : (n : ℕ) (e w : Entries) (pass : ℕ → ℕ → Bool) → Plain (choices n e w pass)
 choices-plain n e w pass xs c = refl
 
--- "a name must be equal unless the twig's is 0"
-abbrev pub byName : Entries → Entries → ℕ → ℕ → Bool
-byName e w q c = passes (w .name q) (e .name c)
-
 -- all loose answers, ascending
 unfoldable pub looseAnswers : ℕ → ℕ → Entries → Entries → List (List ℕ)
-looseAnswers n m e w = map reverse (answersFrom (choices n e w (byName e w)) m [])
+looseAnswers n m e w = map reverse (answersFrom (choices n e w (passOf e w)) m [])
 
 -- ---- the images, node by node
 
