@@ -176,6 +176,11 @@ five-prepare-zero r after state out p =
 abbrev pub fiveTable : List ℕ
 fiveTable = 3 ∷ 3 ∷ 2 ∷ 0 ∷ 3 ∷ 2 ∷ 2 ∷ 0 ∷ 2 ∷ 0 ∷ []
 
+prepare-leaves : fivePrepared .state .table ≡ fiveTable
+unfolding run turnWithin lengthFault inRange check.stepOf closeOf nameless secondRoot accepted cell passes
+    every hasBit mask put givenOf ready begun childrenIn stands canOf badParent written joined stepTable prepStep
+prepare-leaves = refl
+
 -- two steps of the walk, to the first answer
 abbrev fiveWalked : Turned Walk
 fiveWalked = walkTurnOf five pair fiveTable 2 (walkOf (walkNumbers fresh))
