@@ -20,7 +20,7 @@ use Rattle.trees.specs.Order.{lt-or-ge}
 use Rattle.trees.specs.Signature.{Entries}
 use Rattle.trees.specs.Facts.{Facts}
 use Rattle.xpath.specs.Select.{some}
-use Rattle.xpath.specs.Axes.{met, parentOf, onAxis}
+use Rattle.xpath.specs.Axes.{parentOf, onAxis}
 use Rattle.xpath.specs.Ancestors.{inside-yes, inside-no, whole-yes, whole-no}
 
 -- one of the ranks 1 to n passes
