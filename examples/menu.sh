@@ -2,8 +2,7 @@
 # examples/menu.sh: writes the sample question to standard output. The menu has two sections with dishes, each dish with a price; the names are 1 menu,
 # 2 section, 3 dish, 4 price. The twig asks for a section with a price anywhere below it.
 set -eu
-opens() { printf "OP\\x$(printf %02x $(($1 % 256)))\\x$(printf %02x $(($1 / 256)))"; }
-closes() { printf CL; }
+. "$(dirname "$0")/tags.sh"
 dish() { opens 3; opens 4; closes; closes; }
 
 opens 1

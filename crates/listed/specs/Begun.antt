@@ -1,8 +1,8 @@
 -- Demand 2 of the start call of preparing, as a predicate over any such call: ours meets it, and wrong ones do not.
 --   Starter, Began      any start call, and what it answers and leaves
---   StartTwo call       it hands back n and clears just the 2×n numbers where it can; where it refuses it writes nothing
+--   StartTwo call       it hands back n and clears just the 2×n numbers where it can; elsewhere it refuses, and writes nothing
 --   ours-start          whatever keeps our promise meets it
---   shut-out-start-…    refusing everything, one fixed answer, clearing nothing
+--   shut-out-start-…    refusing everything, one fixed answer, clearing nothing, never refusing
 use Prim.Native.Nat.{ℕ, zero, suc, _*_, _≤_, _<_}
 use mathlib.Core.Path.{_≡_, refl, ap, _∙_, sym}
 use mathlib.Core.List.{List, [], _∷_}
@@ -13,9 +13,10 @@ use lib.ListN.{length, getD}
 use borrow.Author.Tests.{eq-eqb, ne-eqb}
 use Rattle.turns.specs.Pick.{pick}
 use Rattle.checking.specs.declared.Refusal.{Refusal}
+use Rattle.preparing.specs.declared.Prep.{Prep}
 use Rattle.preparing.specs.declared.Started.{Started}
 use Rattle.preparing.specs.PrepTurn.{StartPromise, Fresh, startTold, startFault, cleared, prepAt}
-use Rattle.preparing.proofs.PrepCases.{start-fine, start-empty, clear-length}
+use Rattle.preparing.proofs.PrepCases.{start-fine, start-empty, start-sized, clear-length}
 use Rattle.listed.specs.Tables.{clear-get}
 
 -- what a start call answers, and the table that it leaves
@@ -33,10 +34,11 @@ pub record Clear (n : ℕ) (lent left : List ℕ) : Type 0 where
   pub zeros : (i : ℕ) → i < 2 * n → getD left i 0 ≡ 0
   pub others : (i : ℕ) → 2 * n ≤ i → getD left i 0 ≡ getD lent i 0
 
--- demand 2 of a start call: wherever it can it begins at n and clears just the 2×n numbers; where it refuses it writes nothing
+-- demand 2 of a start call: wherever it can it begins at n and clears just the 2×n numbers; elsewhere it refuses, and where it refuses it writes nothing
 pub record StartTwo (call : Starter) : Type 0 where
   pub works : (n : ℕ) (lent : List ℕ) → 1 ≤ n → n ≤ 4096 → 2 * n ≤ length lent
       → (call n lent .says ≡ Started.Fresh (prepAt n)) × Clear n lent (call n lent .left)
+  pub other : (n : ℕ) (lent : List ℕ) → (1 ≤ n → n ≤ 4096 → 2 * n ≤ length lent → ⊥) → (x : Refusal) × (call n lent .says ≡ Started.Refused x)
   pub refuses : (n : ℕ) (lent : List ℕ) (x : Refusal) → call n lent .says ≡ Started.Refused x → call n lent .left ≡ lent
 
 -- ---- ours
@@ -79,9 +81,19 @@ module _ (n : ℕ) (lent : List ℕ) (r : Started) (left : List ℕ) (p : StartP
           let z : 0 ≡ n = ap (λ (f : Fresh). f .next) told ∙ ap (λ b. pick b n 0) (eq-eqb _ _ h) in
           absurd (omega (arith, start-empty n (length lent) (sym z), h))
 
+  other-here : (1 ≤ n → n ≤ 4096 → 2 * n ≤ length lent → ⊥) → (x : Refusal) × (r ≡ Started.Refused x)
+  other-here h = by r refl
+    where
+      by : (y : Started) → r ≡ y → (x : Refusal) × (r ≡ Started.Refused x)
+      by (Started.Refused x) e = (x, e)
+      by (Started.Fresh q) e =
+          let f : startFault n (length lent) ≡ 0 = ap (λ (g : Fresh). g .number) (sym (p .answer) ∙ ap startTold e) in
+          let z = start-sized n (length lent) f in absurd (h (z .0) (z .1) (z .2))
+
 pub ours-start : (call : Starter) → ((n : ℕ) (lent : List ℕ) → StartPromise n lent (call n lent .says) (call n lent .left)) → StartTwo call
 ours-start call p = record {
   works = λ n lent a b c. works-here n lent (call n lent .says) (call n lent .left) (p n lent) a b c;
+  other = λ n lent h. other-here n lent (call n lent .says) (call n lent .left) (p n lent) h;
   refuses = λ n lent x e. refuses-here n lent (call n lent .says) (call n lent .left) (p n lent) x e;
 }
 
@@ -108,3 +120,8 @@ shut-out-start-fixed x d =
 pub shut-out-start-idle : (call : Starter) → ((n : ℕ) (lent : List ℕ) → call n lent .left ≡ lent) → StartTwo call → ⊥
 shut-out-start-idle call h d =
     let q : _≡_ {A = ℕ} 9 0 = ap (λ (l : List ℕ). getD l 0 0) (sym (h 1 nines)) ∙ one-entry call d .1 .zeros 0 (omega arith) in omega arith
+
+-- any start call that never refuses; a tree of no elements is to be refused
+pub shut-out-start-trusting : (call : Starter) → ((n : ℕ) (lent : List ℕ) → (p : Prep) × (call n lent .says ≡ Started.Fresh p)) → StartTwo call → ⊥
+shut-out-start-trusting call h d =
+    let q = sym (h 0 nines .1) ∙ d .other 0 nines (λ a b c. omega arith) .1 in let z : _≡_ {A = ℕ} 0 1 = cc in omega arith

@@ -1,6 +1,7 @@
 -- Demands 2 and 3 of the loose question, as predicates over any turn of preparing and any turn of walking. Ours meet them.
 --   Preparer, Walker       any turn of preparing, any turn of walking
 --   PrepCalls, WalkCalls   calls one after the other, each given what the one before handed back
+--   WayOf call w            the walk w is the fresh one, or was handed back by calls from it
 --   PrepTwo, WalkTwo       demand 2: the table is right where the end is reported; the answers told are the list of all loose answers
 --   PrepThree, WalkThree   demand 3: each turn is what document 01 says of a turn of the written rule
 --   ours-prep-two, ours-walk-two, ours-prep-three, ours-walk-three   whatever keeps our promises meets them
@@ -29,7 +30,7 @@ use Rattle.preparing.specs.Preparing.{Preparing, prepared, prepStep}
 use Rattle.preparing.specs.PrepTurn.{StartPromise, prepInRange, prepRunOf, PrepHanded, PrepPromise}
 use Rattle.walking.specs.Walking.{inRange, stepOf, ended, fresh}
 use Rattle.walking.specs.WalkTurn.{walkRunOf, WalkHanded, WalkPromise}
-use Rattle.listed.specs.Questions.{Accepted, Lent, PrepBack, lend, reading, TableSays, NoBitsAbove, Prepared, tellOf, start}
+use Rattle.listed.specs.Questions.{Accepted, Lent, PrepBack, lend, reading, TableSays, NoBitsAbove, Prepared, tellOf, start, OnTheWay, handed}
 use Rattle.listed.specs.Given.{begun-runs}
 use Rattle.listed.specs.Ruling.{Ready}
 use Rattle.listed.specs.Prepared.{Done, Short, prepare-n, prepare-bits, prepare-ends}
@@ -50,6 +51,11 @@ PrepCalls call s tw st B K r = Chain Lent PrepBack (λ b from t. t ≡ call s tw
 -- calls of a turn of the walk one after the other, each given the walk that the one before handed back
 abbrev pub WalkCalls : Walker → List ℕ → List ℕ → List ℕ → Walk → ℕ → ℕ → WalkTurn → Type 0
 WalkCalls call s tw table w B K r = Chain Walk WalkTurn (λ b from t. t ≡ call s tw table b from) (λ t. t .walk) (λ t. t .steps) w B K r
+
+-- "from the start, and from any answer", of any turn of walking: the fresh walk, or one that calls from it handed back
+pub data WayOf (call : Walker) (s tw table : List ℕ) : Walk → Type 0 where
+  begins : WayOf call s tw table fresh
+  after : {B K : ℕ} {r : WalkTurn} → WalkCalls call s tw table fresh B K r → WayOf call s tw table (r .walk)
 
 -- ---- demand 2
 
@@ -77,7 +83,7 @@ pub record WalkTwo (call : Walker) : Type 0 where
       → {B K : ℕ} {r : WalkTurn} (c : WalkCalls call s tw left fresh B K r)
       → (r .stop ≡ Stop.Answer) ⊎ (r .stop ≡ Stop.End) ⊎ (r .stop ≡ Stop.Budget)
   pub arrives : (s tw left : List ℕ) → Accepted s tw → Prepared s tw left
-      → {B K : ℕ} {r : WalkTurn} (c : WalkCalls call s tw left fresh B K r)
+      → {w : Walk} {B K : ℕ} {r : WalkTurn} → WayOf call s tw left w → (c : WalkCalls call s tw left w B K r)
       → AllButLast (λ u. u .stop ≡ Stop.Budget) c → 2 * (entries tw * entries s) + 1 ≤ B → (r .stop ≡ Stop.Answer) ⊎ (r .stop ≡ Stop.End)
 
 -- ---- demand 3
@@ -151,6 +157,10 @@ module _ (call : Walker) (promise : (s tw left : List ℕ) (b : ℕ) (w : Walk) 
   keeps-walk : (s tw left : List ℕ) (b : ℕ) (w : Walk) (r : WalkTurn) → r ≡ call s tw left b w → WalkPromise s tw left b w r
   keeps-walk s tw left b w r q = subst (WalkPromise s tw left b w) (sym q) (promise s tw left b w)
 
+  way : (s tw left : List ℕ) {w : Walk} → WayOf call s tw left w → OnTheWay s tw left w
+  way s tw left begins = start
+  way s tw left (after c) = handed (kept (keeps-walk s tw left) c)
+
   pub ours-walk-two : WalkTwo call
   ours-walk-two = record {
     front = λ s tw left a p c.
@@ -159,8 +169,8 @@ module _ (call : Walker) (promise : (s tw left : List ℕ) (b : ℕ) (w : Walk) 
     whole = λ s tw left a p c h.
         sym (kept-told (keeps-walk s tw left) (tellOf (entries tw)) c) ∙ loose-exactly s tw a left p (kept (keeps-walk s tw left) c) .whole h;
     unrefused = λ s tw left a p c. loose-exactly s tw a left p (kept (keeps-walk s tw left) c) .unrefused;
-    arrives = λ s tw left a p c h l.
-        walk-within s tw a left p start (kept (keeps-walk s tw left) c)
+    arrives = λ s tw left a p i c h l.
+        walk-within s tw a left p (way s tw left i) (kept (keeps-walk s tw left) c)
         (kept-each (keeps-walk s tw left) (λ u. u .stop ≡ Stop.Budget) c h) .arrives l;
   }
 

@@ -2,6 +2,7 @@
 --   shut-out-prep-refusing, shut-out-walk-refusing    refusing everything (demand 2)
 --   shut-out-prep-fixed, shut-out-walk-fixed          one fixed answer, whatever it is (demand 2)
 --   shut-out-prep-idle, shut-out-walk-idle            a turn that does nothing (demand 2 for answers)
+--   shut-out-walk-once                                nothing more after the first answer (demand 2)
 --   shut-out-prep-still, shut-out-walk-still          the same (demand 3, as a paid step leaves a named state)
 --   shut-out-prep-at-once, shut-out-walk-at-once      all the work in the first turn and idling later (demand 3)
 --   shut-out-prep-invented, shut-out-walk-invented    an invented step count (demand 3)
@@ -39,7 +40,7 @@ use Rattle.listed.specs.Ruling.{Ready}
 use Rattle.listed.specs.Prepared.{prepare-n}
 use Rattle.listed.specs.Cases.{four-accepted, ten-accepted, fourTable, tenTable, clearedFor, four-prepared, ten-prepared}
 use Rattle.listed.specs.Worked.{four-listed, ten-listed}
-use Rattle.listed.specs.Demands.{Preparer, Walker, PrepTwo, WalkTwo, PrepThree, WalkThree, prep-three-turn, walk-three-turn}
+use Rattle.listed.specs.Demands.{Preparer, Walker, PrepTwo, WalkTwo, PrepThree, WalkThree, prep-three-turn, walk-three-turn, begins, after}
 
 -- ---- demand 2 of preparing
 
@@ -100,7 +101,7 @@ shut-out-prep-fixed r d =
 -- a turn that may spend 2×3×4+1 steps has to come to an answer or to the end
 must-arrive : (call : Walker) → WalkTwo call
     → (call tarts (fork 2 3 4) fourTable 25 fresh .stop ≡ Stop.Answer) ⊎ (call tarts (fork 2 3 4) fourTable 25 fresh .stop ≡ Stop.End)
-must-arrive call d = d .arrives tarts (fork 2 3 4) fourTable four-accepted four-prepared (one {b = 25} refl) tt (omega arith)
+must-arrive call d = d .arrives tarts (fork 2 3 4) fourTable four-accepted four-prepared begins (one {b = 25} refl) tt (omega arith)
 
 -- a stop that is neither
 module _ (call : Walker) (d : WalkTwo call) where
@@ -145,6 +146,33 @@ shut-out-walk-fixed r d = by (r .stop) refl
         let z : _≡_ {A = ℕ} 0 1 = cc in omega arith
     by Stop.Budget h = not-budget (λ s tw left b w. r) d h
     by (Stop.Refused x) h = not-refused (λ s tw left b w. r) d x h
+
+-- any walk that idles after an answer; 8(9,10) on Ten has one answer, and behind it the end is to be reported
+pub shut-out-walk-once : (call : Walker) → ((s tw left : List ℕ) (b c : ℕ) (w : Walk)
+    → call s tw left b w .stop ≡ Stop.Answer → call s tw left c (call s tw left b w .walk) .stop ≡ Stop.Budget)
+    → WalkTwo call → ⊥
+unfolding told
+shut-out-walk-once call h d = by (d .arrives ten (fork 8 9 10) tenTable ten-accepted ten-prepared begins (one {b = 61} refl) tt (omega arith))
+  where
+    first : WalkTurn
+    first = call ten (fork 8 9 10) tenTable 61 fresh
+
+    second : WalkTurn
+    second = call ten (fork 8 9 10) tenTable 61 (first .walk)
+
+    idles : second .stop ≡ Stop.Budget → (second .stop ≡ Stop.Answer) ⊎ (second .stop ≡ Stop.End) → ⊥
+    idles q (inl e) = let z = sym e ∙ q in let y : _≡_ {A = ℕ} 0 1 = cc in omega arith
+    idles q (inr e) = let z = sym e ∙ q in let y : _≡_ {A = ℕ} 0 1 = cc in omega arith
+
+    by : (first .stop ≡ Stop.Answer) ⊎ (first .stop ≡ Stop.End) → ⊥
+    by (inl e) =
+        idles (h ten (fork 8 9 10) tenTable 61 61 fresh e)
+        (d .arrives ten (fork 8 9 10) tenTable ten-accepted ten-prepared (after (one {b = 61} refl)) (one {b = 61} refl) tt (omega arith))
+    by (inr e) =
+        let f = d .whole ten (fork 8 9 10) tenTable ten-accepted ten-prepared (one {b = 61} refl) e in
+        let z : _≡_ {A = List (List ℕ)} [] ((8 ∷ 9 ∷ 10 ∷ []) ∷ [])
+        = ap (λ (x : Stop). questions.told x (take 3 (first .walk .images))) (sym e) ∙ f ∙ ten-listed in
+        let y : _≡_ {A = ℕ} 0 1 = cc in omega arith
 
 -- ---- demand 3 of preparing
 
