@@ -20,7 +20,7 @@ use Rattle.tag_scan.specs.TagLists.{opening, closing, namelessAt, treeScan, tag
 use Rattle.bytes_read.proofs.Marks.{marked-is}
 use Rattle.tag_scan.proofs.TagFaults.{Opened, Closed}
 use Rattle.tag_scan.proofs.TagsFrom.{tags-open, tags-close, tags-none}
-use Rattle.tag_lists.proofs.Build.{whole-numbers}
+use Rattle.tag_building.proofs.Build.{whole-numbers}
 use Rattle.tag_scan.proofs.Judging.{Tagged, stepped, read-whole}
 use Rattle.retold.specs.Taken.{Bytes}
 use Rattle.retold.specs.Places.{two-at}

@@ -1,3 +1,1 @@
-pub mod Build
 pub mod Reading
-pub mod Passing

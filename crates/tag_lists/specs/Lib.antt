@@ -1,3 +1,2 @@
 -- Tag lists read into signatures: the promises of the readers.
 pub mod Readers
-pub mod Builds

@@ -9,8 +9,8 @@ use lib.ListN.{length, getD, take}
 use lib.Seq.{slice, slice-cons, slice-empty, length-take-le}
 use Rattle.checking.specs.Room.{Left}
 use Rattle.bytes_read.proofs.Rooms.{short-is, written-is, Storing, storing-start, storing-more, storing-end}
-use Rattle.tag_lists.proofs.give_front.Statement.{statement}
-use Rattle.tag_lists.proofs.give_front.Tie as tie
+use Rattle.tag_building.proofs.give_front.Statement.{statement}
+use Rattle.tag_building.proofs.give_front.Tie as tie
 
 abbrev Inv-loop : tie.InvT-loop
 Inv-loop own len room₀ i₀ room i = Storing room₀ (take len own) room i (slice i len own) × (i ≤ len)

@@ -2,9 +2,9 @@
 use lib.ListN.{length-set}
 use native.Mathlib.Omega.{arith}
 use borrow.Author.Needs.{needs}
-use Rattle.tag_lists.proofs.Build.{entry-there, close-lacking, close-stores}
-use Rattle.tag_lists.proofs.close_entry.Statement.{statement}
-use Rattle.tag_lists.proofs.close_entry.Tie as tie
+use Rattle.tag_building.proofs.Build.{entry-there, close-lacking, close-stores}
+use Rattle.tag_building.proofs.close_entry.Statement.{statement}
+use Rattle.tag_building.proofs.close_entry.Tie as tie
 
 mul-end : tie.Need-mul-end
 mul-end c = search needs

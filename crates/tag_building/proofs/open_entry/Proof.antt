@@ -4,8 +4,8 @@ use lib.ListN.{length-set}
 use native.Mathlib.Omega.{arith}
 use borrow.Author.Needs.{needs}
 use Rattle.bytes_read.proofs.Rooms.{sets-four}
-use Rattle.tag_lists.proofs.open_entry.Statement.{statement}
-use Rattle.tag_lists.proofs.open_entry.Tie as tie
+use Rattle.tag_building.proofs.open_entry.Statement.{statement}
+use Rattle.tag_building.proofs.open_entry.Tie as tie
 
 mul-at : tie.Need-mul-at
 mul-at c = search needs

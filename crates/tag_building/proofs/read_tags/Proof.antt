@@ -2,9 +2,9 @@
 use native.Mathlib.Omega.{arith}
 use borrow.Author.Needs.{needs}
 use Rattle.checking.proofs.Runs.{most-small}
-use Rattle.tag_lists.proofs.Reading.{filled-refused, filled-given}
-use Rattle.tag_lists.proofs.read_tags.Statement.{statement}
-use Rattle.tag_lists.proofs.read_tags.Tie as tie
+use Rattle.tag_building.proofs.Filling.{filled-refused, filled-given}
+use Rattle.tag_building.proofs.read_tags.Statement.{statement}
+use Rattle.tag_building.proofs.read_tags.Tie as tie
 
 any-name-requires : tie.Need-any-name-requires
 any-name-requires c κs = search needs

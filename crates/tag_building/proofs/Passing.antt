@@ -12,10 +12,10 @@ use Rattle.bytes_read.specs.Scans.{Scan, begin}
 use Rattle.bytes_read.proofs.Scanning.{Going, going-start, going-end, going-fault, going-next}
 use Rattle.tag_scan.specs.TagLists.{opening, tagFault, tagNext, treeEnd}
 use Rattle.tag_scan.proofs.TagFaults.{closed-open, closed-none, closed-is, end-open, end-closed, Opened, Closed, opened-of, closed-of}
-use Rattle.tag_lists.specs.Builds.{openRoom, closeRoom, parentIn}
-use Rattle.tag_lists.specs.Readers.{BuiltPromise}
-use Rattle.tag_lists.proofs.Build.{Built, built-start, built-end, built-open, built-close}
-use Rattle.tag_lists.proofs.Reading.{reading-tags}
+use Rattle.tag_building.specs.Builds.{openRoom, closeRoom, parentIn}
+use Rattle.tag_building.specs.Filled.{BuiltPromise}
+use Rattle.tag_building.proofs.Build.{Built, built-start, built-end, built-open, built-close}
+use Rattle.tag_building.proofs.Filling.{reading-tags}
 
 -- the scan's state after size elements opened and closed ones closed
 abbrev pub standing : ℕ → ℕ → ℕ → Scan

@@ -4,8 +4,8 @@ use borrow.Author.Needs.{needs}
 use mathlib.Core.Path.{_≡_, refl, ap}
 use Prim.Native.Nat.{ℕ, _+_, _*_}
 use lib.ListN.{getD}
-use Rattle.tag_lists.proofs.name_at.Statement.{statement}
-use Rattle.tag_lists.proofs.name_at.Tie as tie
+use Rattle.tag_building.proofs.name_at.Statement.{statement}
+use Rattle.tag_building.proofs.name_at.Tie as tie
 
 add-low : tie.Need-add-low
 add-low c = search needs

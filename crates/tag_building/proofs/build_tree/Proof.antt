@@ -6,10 +6,10 @@ use lib.ListN.{length}
 use native.Mathlib.Omega.{arith}
 use borrow.Author.Needs.{needs}
 use Rattle.tag_scan.specs.TagLists.{treeEnd}
-use Rattle.tag_lists.proofs.Build.{close-long}
-use Rattle.tag_lists.proofs.Passing.{standing, Passing, passing-start, starts-open, passing-end, passing-on, passing-fault, opened-here, closed-here, passing-open, passing-close}
-use Rattle.tag_lists.proofs.build_tree.Statement.{statement}
-use Rattle.tag_lists.proofs.build_tree.Tie as tie
+use Rattle.tag_building.proofs.Build.{close-long}
+use Rattle.tag_building.proofs.Passing.{standing, Passing, passing-start, starts-open, passing-end, passing-on, passing-fault, opened-here, closed-here, passing-open, passing-close}
+use Rattle.tag_building.proofs.build_tree.Statement.{statement}
+use Rattle.tag_building.proofs.build_tree.Tie as tie
 
 abbrev Inv-loop : tie.InvT-loop
 Inv-loop bytes whole any-name most from own₀ at₀ size₀ top₀ closed₀ own at size top closed =

@@ -24,7 +24,7 @@ use Rattle.bytes_read.specs.Bytes.{numberAt}
 use Rattle.checking.specs.Room.{frontWith}
 use Rattle.tag_scan.specs.TagLists.{opening, tagsFrom, treeNumbers, numbersIn}
 use Rattle.tag_scan.proofs.TagsFrom.{tags-length-from, tags-open, tags-close, tags-none}
-use Rattle.tag_lists.specs.Builds.{openRoom, lacks, closeRoom, parentIn}
+use Rattle.tag_building.specs.Builds.{openRoom, lacks, closeRoom, parentIn}
 
 -- ---- one tag
 

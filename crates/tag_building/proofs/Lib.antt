@@ -1,0 +1,3 @@
+pub mod Build
+pub mod Filling
+pub mod Passing
