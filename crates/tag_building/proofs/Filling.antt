@@ -1,6 +1,7 @@
 -- Reading a tree into the room: which case of the promise holds.
 --   reading-tags, reading-length   what stands in the bytes where nothing is refused
 --   filled-refused, filled-given   the two cases: a tag is refused, or what was built is given
+--   one-filled                     two results that the promise allows are equal
 use Prim.Native.Nat.{ℕ, _*_}
 use mathlib.Core.Path.{_≡_, refl, ap, _∙_, sym, subst}
 use mathlib.Core.Bool.{Bool}
@@ -39,14 +40,14 @@ module _ (all : Bool) (k : Kind) (b : List ℕ) (p : ℕ) (room : List ℕ) (any
   same : treeScan all any m b p ≡ treeScan all (anyName k) (most k) b p
   same = ap (λ (x : Bool). treeScan all x m b p) ea ∙ ap (λ (x : ℕ). treeScan all (anyName k) x b p) em
 
-  promised : (g l : ℕ) (after : List ℕ) → Filled f at (numbersIn b p n) room g at l after → FilledPromise all k b p room g at l after
+  promised : (g l : ℕ) (after : List ℕ) → Filled f at (4 * n) (numbersIn b p n) room g at l after → FilledPromise all k b p room g at l after
   promised g l after r =
       let e₁ = h .number ∙ ap (λ (t : Turned Scan). haltNumber (t .halt)) same in
       let e₂ = h .place ∙ ap (λ (t : Turned Scan). t .state .at) same in
       let e₃ = h .count ∙ ap (λ (t : Turned Scan). t .state .count) same in
-      subst (λ (x : ℕ). Filled (haltNumber (treeScan all (anyName k) (most k) b p .halt)) (treeScan all (anyName k) (most k) b p .state .at) (numbersIn b p x) room g at l after) e₃
-      (subst (λ (x : ℕ). Filled (haltNumber (treeScan all (anyName k) (most k) b p .halt)) x (numbersIn b p n) room g at l after) e₂
-      (subst (λ (x : ℕ). Filled x at (numbersIn b p n) room g at l after) e₁ r))
+      subst (λ (x : ℕ). Filled (haltNumber (treeScan all (anyName k) (most k) b p .halt)) (treeScan all (anyName k) (most k) b p .state .at) (4 * x) (numbersIn b p x) room g at l after) e₃
+      (subst (λ (x : ℕ). Filled (haltNumber (treeScan all (anyName k) (most k) b p .halt)) x (4 * n) (numbersIn b p n) room g at l after) e₂
+      (subst (λ (x : ℕ). Filled x at (4 * n) (numbersIn b p n) room g at l after) e₁ r))
 
   pub filled-refused : (f ≡ 0 → ⊥) → FilledPromise all k b p room f at (4 * n) room
   filled-refused z =
@@ -54,7 +55,8 @@ module _ (all : Bool) (k : Kind) (b : List ℕ) (p : ℕ) (room : List ℕ) (any
       promised f (4 * n) room (record {
         told = ap (λ (x : Left). x .answer .number) (sym q);
         left = ap (λ (x : Left). x .room) (sym q);
-        ended = λ w. refl;
+        ended = refl;
+        sized = refl;
         long = λ w. absurd (z w);
       })
 
@@ -67,6 +69,13 @@ module _ (all : Bool) (k : Kind) (b : List ℕ) (p : ℕ) (room : List ℕ) (any
       promised g (4 * n) after (record {
         told = u ∙ ap (λ (x : Left). x .answer .number) w;
         left = v ∙ ap (λ (x : Left). x .room) w;
-        ended = λ y. refl;
+        ended = refl;
+        sized = refl;
         long = λ y. sym e;
       })
+
+-- the promise leaves one result
+pub one-filled : (all : Bool) (k : Kind) (b : List ℕ) (p : ℕ) (room : List ℕ) (f at l : ℕ) (after : List ℕ) (f₂ at₂ l₂ : ℕ) (after₂ : List ℕ)
+    → FilledPromise all k b p room f at l after → FilledPromise all k b p room f₂ at₂ l₂ after₂ → (f ≡ f₂) × (at ≡ at₂) × (l ≡ l₂) × (after ≡ after₂)
+one-filled all k b p room f at l after f₂ at₂ l₂ after₂ x y =
+    (x .told ∙ sym (y .told), x .ended ∙ sym (y .ended), x .sized ∙ sym (y .sized), x .left ∙ sym (y .left))

@@ -1,28 +1,32 @@
 -- What reading a tree into the room comes to: which tree stands in the bytes is said by `tag_scan/specs/TagLists`.
 --   Filled, FilledPromise  the refusal's number, room included, and what is left in the room
 --   BuiltPromise           the pass that judges and builds
-use Prim.Native.Nat.{ℕ, _≤_}
+use Prim.Native.Nat.{ℕ, _*_, _≤_}
 use mathlib.Core.Path.{_≡_}
 use mathlib.Core.Bool.{Bool}
 use mathlib.Core.List.{List}
 use lib.ListN.{length}
+use Rattle.trees.specs.Signature.{width}
 use Rattle.checking.specs.Kinds.{anyName, most}
 use Rattle.checking.specs.declared.Kind.{Kind}
 use Rattle.bytes_read.specs.Scans.{haltNumber}
 use Rattle.checking.specs.Room.{leftBy, frontWith}
 use Rattle.tag_scan.specs.TagLists.{treeScan, numbersIn}
 
--- what reading into the room comes to: the refusal's number, room included, or 0, and where it worked its length and place
-pub record Filled (number end : ℕ) (result room : List ℕ) (fault at l : ℕ) (after : List ℕ) : Type 0 where
+-- what reading into the room comes to: the refusal's number, room included, or 0; the place that it came to, and the numbers of the elements that it
+-- passed, which are those of the result where nothing is refused
+pub record Filled (number end size : ℕ) (result room : List ℕ) (fault at l : ℕ) (after : List ℕ) : Type 0 where
   pub told : fault ≡ leftBy number 0 result room .answer .number
   pub left : after ≡ leftBy number 0 result room .room
-  pub ended : fault ≡ 0 → at ≡ end
+  pub ended : at ≡ end
+  pub sized : l ≡ size
   pub long : fault ≡ 0 → l ≡ length result
 
 -- the promise of what both readers call
 abbrev pub FilledPromise : Bool → Kind → List ℕ → ℕ → List ℕ → ℕ → ℕ → ℕ → List ℕ → Type 0
 FilledPromise whole k b p room fault at l after =
     Filled (haltNumber (treeScan whole (anyName k) (most k) b p .halt)) (treeScan whole (anyName k) (most k) b p .state .at)
+    (width * treeScan whole (anyName k) (most k) b p .state .count)
     (numbersIn b p (treeScan whole (anyName k) (most k) b p .state .count)) room fault at l after
 
 -- what the pass over the tags comes to: the place, the elements and the refusal's number of the scan; where nothing is refused, the signature

@@ -47,7 +47,7 @@ abbrev pub unreadBy : ℕ → TreeRead
 unreadBy number = TreeRead.Refused (record { number = number; entry = record { 0 = 0 } })
 
 -- the answers: g, at and l are what reading into the room came to
-module _ (number end : ℕ) (result room : List ℕ) (g at l : ℕ) (after : List ℕ) (h : Filled number end result room g at l after) where
+module _ (number end size : ℕ) (result room : List ℕ) (g at l : ℕ) (after : List ℕ) (h : Filled number end size result room g at l after) where
   read-as : (r : TreeRead) (x : Answered) → leftBy number 0 result room .answer ≡ x → readTold r .answer ≡ x
       → readTold r .end ≡ pick (eqb (x .refused) 0) end 0 → ReadLeft number end result room r after
   read-as r x q u v = record { told = u ∙ sym q; ended = v ∙ ap (λ (y : Answered). pick (eqb (y .refused) 0) end 0) (sym q); left = h .left }
@@ -58,7 +58,7 @@ module _ (number end : ℕ) (result room : List ℕ) (g at l : ℕ) (after : Lis
 
   left-done : (r : TreeRead) → r ≡ TreeRead.Tree l at → g ≡ 0 → ReadLeft number end result room r after
   left-done r q z =
-      let e = q ∙ ap (λ (x : ℕ). TreeRead.Tree x at) (h .long z) ∙ ap (TreeRead.Tree (length result)) (h .ended z) in
+      let e = q ∙ ap (λ (x : ℕ). TreeRead.Tree x at) (h .long z) ∙ ap (TreeRead.Tree (length result)) (h .ended) in
       read-as r _ (answer-worked number result room g (h .told) z) (ap (λ (x : TreeRead). readTold x .answer) e) (ap (λ (x : TreeRead). readTold x .end) e)
 
   told-refused : (w : Written) → w ≡ refusedBy g 0 → (g ≡ 0 → ⊥) → answered w ≡ leftBy number 0 result room .answer
@@ -69,14 +69,14 @@ module _ (number end : ℕ) (result room : List ℕ) (g at l : ℕ) (after : Lis
 
 module _ (k : Kind) (b : List ℕ) (p : ℕ) (room : List ℕ) (g at l : ℕ) (after : List ℕ) where
   pub tree-unread : FilledPromise false k b p room g at l after → (r : TreeRead) → r ≡ unreadBy g → (g ≡ 0 → ⊥) → TreePromise k b p room r after
-  tree-unread h r q n = left-refused _ _ _ _ g at l after h r q n
+  tree-unread h r q n = left-refused _ _ _ _ _ g at l after h r q n
 
   pub tree-read : FilledPromise false k b p room g at l after → (r : TreeRead) → r ≡ TreeRead.Tree l at → g ≡ 0 → TreePromise k b p room r after
-  tree-read h r q z = left-done _ _ _ _ g at l after h r q z
+  tree-read h r q z = left-done _ _ _ _ _ g at l after h r q z
 
 module _ (k : Kind) (b : List ℕ) (room : List ℕ) (g at l : ℕ) (after : List ℕ) (h : FilledPromise true k b 0 room g at l after) where
   pub tags-refused : (w : Written) → w ≡ refusedBy g 0 → (g ≡ 0 → ⊥) → TagsPromise k b room w after
-  tags-refused w q n = record { told = told-refused _ _ _ _ g at l after h w q n; left = h .left }
+  tags-refused w q n = record { told = told-refused _ _ _ _ _ g at l after h w q n; left = h .left }
 
   pub tags-written : (w : Written) → w ≡ Written.Length l → g ≡ 0 → TagsPromise k b room w after
-  tags-written w q z = record { told = told-written _ _ _ _ g at l after h w q z; left = h .left }
+  tags-written w q z = record { told = told-written _ _ _ _ _ g at l after h w q z; left = h .left }
