@@ -12,6 +12,7 @@ use mathlib.Core.List.{List, [], _∷_, flatMap}
 use native.Mathlib.Omega.{arith}
 use lib.Dec.{eqb, leb}
 use lib.ListN.{length, getD, replicate}
+use borrow.Author.Tests.{eqb-false}
 use Rattle.turns.specs.Pick.{pick}
 use Rattle.turns.specs.Turn.{Turned, moved, answered, refused, run}
 use Rattle.trees.specs.Signature.{cell, Entries, entriesOf, width, entries}
@@ -21,7 +22,7 @@ use Rattle.checking.specs.Kinds.{most}
 use Rattle.checking.specs.Rule as check
 use Rattle.checking.specs.Rule.{closeOf, accepted, nameless, secondRoot, inRange}
 use Rattle.checking.specs.Turn.{turnWithin, lengthFault}
-use Rattle.checking.specs.Stops.{haltTold}
+use Rattle.checking.specs.Stops.{haltTold, Told}
 use Rattle.checking.specs.Room.{Left, refusedLeft, roomFor}
 use Rattle.checking.specs.Whole.{wholeOf}
 use Rattle.checked.specs.Menus.{five, tarts, fork, pair}
@@ -30,6 +31,7 @@ use Rattle.ordered.specs.Promise.{allUpTo, tupleFits, orderedOf}
 use Rattle.preparing.specs.Masks.{can, every, hasBit, mask, put}
 use Rattle.twig_turns.specs.Given.{givenOf, ready, begun, tableWidth}
 use Rattle.preparing.specs.Preparing.{Preparing, prepared, childrenIn, stands, canOf, badParent, written, joined, stepTable, prepStep}
+use Rattle.ordered_given.specs.Judged.{allUpTo, tupleFits, tupleTold, judgedOf}
 use Rattle.preparing.specs.PrepTurn.{startFault, prepInRange, prepRun, prepTurnOf, underway}
 use Rattle.walk_ranges.specs.Ranges.{image, place, imageFits, phaseFits}
 use Rattle.walking.specs.declared.Walk.{Walk}
@@ -49,22 +51,32 @@ module _ (s w g room : List ℕ) where
   abbrev answer : List ℕ
   answer = nextAnswer (entries s) (entriesOf width s) (entries w) (entriesOf width w) g
 
-  -- where both trees are accepted
-  tuple-zero : ZeroAnswer (pick (tupleFits (entries s) (entries w) g) (roomFor room answer) (refusedLeft room 8 0) .answer)
-  tuple-zero = by (tupleFits (entries s) (entries w) g)
+  -- the twig's refusal, the signature's or the tuple's
+  tuple-number : eqb (tupleTold (tupleFits (entries s) (entries w) g) .reason) 1 ≡ false → 1 ≤ tupleTold (tupleFits (entries s) (entries w) g) .number
+  tuple-number = by (tupleFits (entries s) (entries w) g)
     where
-      by : (c : Bool) → ZeroAnswer (pick c (roomFor room answer) (refusedLeft room 8 0) .answer)
-      by true = room-zero room answer
-      by false = refused-zero 8 (omega arith)
+      by : (c : Bool) → eqb (tupleTold c .reason) 1 ≡ false → 1 ≤ tupleTold c .number
+      by true q = absurd (eqb-false 1 1 q refl)
+      by false q = omega arith
+
+  judged-number : eqb (judgedOf s w g .reason) 1 ≡ false → 1 ≤ judgedOf s w g .number
+  unfolding judgedOf
+  judged-number =
+      by-check Kind.Twig w (λ (t : Told). eqb (t .reason) 1 ≡ false → 1 ≤ t .number) _ (wholeOf Kind.Twig w)
+      (by-check Kind.Data s (λ (t : Told). eqb (t .reason) 1 ≡ false → 1 ≤ t .number) _ (wholeOf Kind.Data s) tuple-number (λ l q. l))
+      (λ l q. l)
+
+  call-zero : ZeroAnswer (orderedOf s w g room .answer)
+  unfolding orderedOf
+  call-zero = by (eqb (judgedOf s w g .reason) 1) refl
+    where
+      by : (c : Bool) → eqb (judgedOf s w g .reason) 1 ≡ c
+          → ZeroAnswer (pick c (roomFor room answer) (refusedLeft room (judgedOf s w g .number) (judgedOf s w g .entry)) .answer)
+      by true q = room-zero room answer
+      by false q = refused-zero (judgedOf s w g .number) (judged-number q)
 
   pub ordered-zero : (r : ℕ) (after out : List ℕ) → OrderedNumbers s w g room r after out → (r ≡ 0) ↔ (orderedOf s w g room .answer .refused ≡ 0)
-  unfolding orderedOf
-  ordered-zero r after out p =
-      left-returns (orderedOf s w g room) r after out
-      (by-check Kind.Twig w (λ (x : Left). ZeroAnswer (x .answer)) _ (refusedLeft room (wholeOf Kind.Twig w .number) (wholeOf Kind.Twig w .entry))
-      (by-check Kind.Data s (λ (x : Left). ZeroAnswer (x .answer)) _ (refusedLeft room (wholeOf Kind.Data s .number) (wholeOf Kind.Data s .entry))
-      tuple-zero (λ l. refused-zero _ l))
-      (λ l. refused-zero _ l)) p
+  ordered-zero r after out p = left-returns (orderedOf s w g room) r after out call-zero p
 
 -- ---- preparing
 
@@ -137,14 +149,14 @@ tarts-refused g = orderedOf tarts (fork 2 3 4) g [] .answer .refused
 
 tarts-works : tarts-refused (replicate 3 0) ≡ 0
 unfolding run turnWithin lengthFault inRange check.stepOf closeOf nameless secondRoot accepted cell passes roomFor
-    ranks tuples placedTest laterTest answerTest smallerTest firstOf nextAnswer flatMap allUpTo tupleFits orderedOf
+    ranks tuples placedTest laterTest answerTest smallerTest firstOf nextAnswer flatMap allUpTo tupleFits judgedOf orderedOf
 tarts-works = refl
 
 pub tarts-zero : (r : ℕ) (after out : List ℕ) → OrderedNumbers tarts (fork 2 3 4) (replicate 3 0) [] r after out → r ≡ 0
 tarts-zero r after out p = ordered-zero tarts (fork 2 3 4) (replicate 3 0) [] r after out p .1 tarts-works
 
 tuple-short : tarts-refused (replicate 2 0) ≡ 1
-unfolding run turnWithin lengthFault inRange check.stepOf closeOf nameless secondRoot accepted cell allUpTo tupleFits orderedOf
+unfolding run turnWithin lengthFault inRange check.stepOf closeOf nameless secondRoot accepted cell allUpTo tupleFits judgedOf orderedOf
 tuple-short = refl
 
 pub tuple-zero-not : (r : ℕ) (after out : List ℕ) → OrderedNumbers tarts (fork 2 3 4) (replicate 2 0) [] r after out → r ≡ 0 → ⊥

@@ -20,7 +20,8 @@ use Rattle.checked.specs.Wholly.{accepted-tree}
 use Rattle.walks.specs.Maps.{Lists}
 use Rattle.ordering.specs.Next.{ranks, tuples, placedTest, laterTest, answerTest, smallerTest, firstOf, nextAnswer}
 use Rattle.ordering.specs.Listing.{kept, answersOf}
-use Rattle.ordered.specs.Promise.{allUpTo, tupleFits, orderedOf}
+use Rattle.ordered_given.specs.Judged.{allUpTo, tupleFits, judgedOf}
+use Rattle.ordered.specs.Promise.{orderedOf}
 use Rattle.ordered_calls.specs.Calls.{Called, Calls, end, then, Begun, stopped, went, Complete, Front, calls-list, calls-front}
 use Rattle.ordered_calls.specs.OnTrees.{Ordered, ordered-maps}
 use Rattle.ordered_calls.specs.ShutOut.{zeros, found, three, fork-accepted, ten-accepted}
@@ -28,13 +29,13 @@ use Rattle.ordered_calls.specs.ShutOut.{zeros, found, three, fork-accept
 -- the first call, from zeros on
 first-call : Called ten (fork 8 9 10) zeros (Written.Length 3) found
 unfolding run turnWithin lengthFault inRange stepOf closeOf nameless secondRoot accepted cell passes roomFor
-    ranks tuples placedTest laterTest answerTest smallerTest firstOf nextAnswer flatMap allUpTo tupleFits orderedOf
+    ranks tuples placedTest laterTest answerTest smallerTest firstOf nextAnswer flatMap allUpTo tupleFits judgedOf orderedOf
 first-call = record { room = three; enough = omega arith; promise = record { told = refl; left = refl } }
 
 -- the second call, from that answer on
 last-call : Called ten (fork 8 9 10) found (Written.Length 0) three
 unfolding run turnWithin lengthFault inRange stepOf closeOf nameless secondRoot accepted cell passes roomFor
-    ranks tuples placedTest laterTest answerTest smallerTest firstOf nextAnswer flatMap allUpTo tupleFits orderedOf
+    ranks tuples placedTest laterTest answerTest smallerTest firstOf nextAnswer flatMap allUpTo tupleFits judgedOf orderedOf
 last-call = record { room = three; enough = omega arith; promise = record { told = refl; left = refl } }
 
 pub ten-begun : Begun ten (fork 8 9 10) zeros (found ∷ [])

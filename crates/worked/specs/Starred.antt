@@ -29,7 +29,8 @@ use Rattle.walk_ranges.specs.Ranges.{image, place, imageFits, phaseFits}
 use Rattle.walking.specs.Walking.{endOf, badEnd, back, found, walkOn}
 use Rattle.walking.specs.Walking.{inRange as walkRange, stepOf as walkStep}
 use Rattle.ordering.specs.Next.{ranks, tuples, placedTest, laterTest, answerTest, smallerTest, firstOf, nextAnswer}
-use Rattle.ordered.specs.Promise.{allUpTo, tupleFits, orderedOf}
+use Rattle.ordered_given.specs.Judged.{allUpTo, tupleFits, judgedOf}
+use Rattle.ordered.specs.Promise.{orderedOf}
 use Rattle.worked.specs.Ordered as Ordered
 use Rattle.worked.specs.Loose as Loose
 use Rattle.worked.specs.Loose.{walked, counted}
@@ -45,5 +46,5 @@ unfolding run turnWithin lengthFault inRange stepOf closeOf nameless secondRoot 
     tagBytes closedWith namelessAt misnested tagFault tagNext treeEnd tagsFrom rowFrom backLeft
     every hasBit mask put givenOf ready begun childrenIn stands canOf badParent written joined stepTable prepStep cleared startFault
     image place imageFits phaseFits endOf badEnd back found walkOn walkRange walkStep walked counted
-    ranks tuples placedTest laterTest answerTest smallerTest firstOf nextAnswer flatMap allUpTo tupleFits orderedOf
+    ranks tuples placedTest laterTest answerTest smallerTest firstOf nextAnswer flatMap allUpTo tupleFits judgedOf orderedOf
 starred = refl

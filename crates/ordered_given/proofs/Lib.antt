@@ -1,0 +1,2 @@
+-- The laws of what is judged before room.
+pub mod Laws

@@ -1,0 +1,2 @@
+-- Ordered_given: what the ordered call judges before room.
+pub mod Judged
