@@ -27,7 +27,7 @@ use Rattle.checking.specs.Room.{Left, refusedLeft, roomFor}
 use Rattle.checking.specs.Whole.{wholeOf}
 use Rattle.checked.specs.Menus.{five, tarts, fork, pair}
 use Rattle.ordering.specs.Next.{ranks, tuples, placedTest, laterTest, answerTest, smallerTest, firstOf, nextAnswer}
-use Rattle.ordered.specs.Promise.{allUpTo, tupleFits, orderedOf}
+use Rattle.ordered.specs.Promise.{orderedOf}
 use Rattle.preparing.specs.Masks.{can, every, hasBit, mask, put}
 use Rattle.twig_turns.specs.Given.{givenOf, ready, begun, tableWidth}
 use Rattle.preparing.specs.Preparing.{Preparing, prepared, childrenIn, stands, canOf, badParent, written, joined, stepTable, prepStep}

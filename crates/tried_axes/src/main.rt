@@ -1,140 +1,147 @@
 // Tries the axis, level and block calls at the edges that document 01 does not star, and prints what they say; what is printed is compared with the file stdout.
 // Ten and Five: a line for each axis, name and position has what each entry's own call answers, with a stroke after each. The other lines say their case.
-mod asked;
-mod largest;
-mod lines;
-mod shown;
-mod told;
+// The cases are the lines of the file stdin that have fields: the label; what is tried and its two numbers; the signature, the contexts, and what the room
+// holds before the call. Tried are: `call`, one call with this axis and position; `all`, every axis from every entry below the first number, with as many
+// pairs of a name and a position from 0 to 6 as the second says; `levels`, level and block of the ranks from the first number up to the second; `ends`, the
+// ends of what every axis answers, with the second number as position; `heading`, only the label.
+mod told_entries;
 
-use asked::arguments;
-use asked::each_axis_many;
-use asked::rooms;
-use asked::signatures;
 use checking::Written;
-use largest::all_ranks;
-use largest::broad_tree;
-use largest::large;
-use largest::long_chain;
-use libc::STDOUT_FILENO;
-use lines::digit;
-use shown::end_line;
-use shown::number;
-use shown::numbers;
-use shown::refused;
-use shown::stroke;
-use shown::wide;
-use told::entries_told;
+use libc::STDIN_FILENO;
+use told_entries::entries_told;
+use trial_lines::field;
+use trial_lines::front;
+use trial_lines::line_of;
+use trial_lines::number;
+use trial_lines::numbers;
+use trial_lines::numbers_into;
+use trial_lines::refused;
+use trial_lines::room_left;
+use trial_lines::text;
+use trial_lines::told;
+use trial_lines::tree_into;
+use trial_lines::wide;
 
-fn next(c: u16) -> u16 {
-    if c < 65535 { c + 1 } else { c }
-}
+// What is tried, as words of a line.
+const ALL: u16 = 97;
 
-// What the context after c answers.
-fn from_next(sig: &[u16], axis: u16, name: u16, position: u16, c: u16) {
-    let contexts = [next(c)];
+const CALL: u16 = 99;
+
+const ENDS: u16 = 101;
+
+const LEVELS: u16 = 108;
+
+// What one entry answers.
+fn from_one(sig: &[u16], axis: u16, name: u16, position: u16, context: u16) {
     let mut room = [0u16; 10];
-    let answer = axes::axis(sig, &contexts, axis, name, position, &mut room);
+    let answer = axes::axis(sig, &[context], axis, name, position, &mut room);
     match answer {
-        Written::Length(len) => numbers(&room, len),
+        Written::Length(len) => numbers(front(&room, len)),
         Written::Refused(refusal) => refused(refusal),
     }
-    stroke();
-}
-
-fn heading(axis: u16, name: u16, position: u16) {
-    number(wide(axis));
-    number(wide(name));
-    number(wide(position));
-    io::write_all(STDOUT_FILENO, b" :");
+    text(b" /");
 }
 
 // A line: what each of the entries answers.
-fn each_entry(sig: &[u16], n: u16, axis: u16, name: u16, position: u16) {
-    heading(axis, name, position);
-    for c in 0..n {
-        from_next(sig, axis, name, position, c);
+fn each_entry(sig: &[u16], end: u16, axis: u16, name: u16, position: u16) {
+    numbers(&[axis, name, position]);
+    text(b" :");
+    for c in 1..end {
+        from_one(sig, axis, name, position, c);
     }
-    end_line();
+    text(b"\n");
 }
 
-fn each_position(sig: &[u16], n: u16, axis: u16, name: u16) {
-    for p in 0..7u16 {
-        each_entry(sig, n, axis, name, p);
-    }
-}
-
-fn each_name(sig: &[u16], n: u16, names: u16, axis: u16) {
-    for name in 0..names {
-        each_position(sig, n, axis, name);
+fn each_pair(sig: &[u16], end: u16, axis: u16, pairs: u16) {
+    for k in 0..pairs {
+        each_entry(sig, end, axis, k / 7, k % 7);
     }
 }
 
-// Every axis from every entry with every name, one more that does not occur, and the positions 0 to 6.
-fn each_axis(label: &[u8], sig: &[u16], n: u16, names: u16) {
-    io::write_all(STDOUT_FILENO, label);
+fn each_axis(sig: &[u16], end: u16, pairs: u16) {
     for axis in 0..11u16 {
-        each_name(sig, n, names, axis);
+        each_pair(sig, end, axis, pairs);
     }
 }
 
-// Document 01's Ten, a character for each number.
-fn ten() -> [u16; 40] {
-    let mut sig = [0u16; 40];
-    for i in 0..40usize {
-        sig[i] = digit(b"1:;02571336241535263747269;188;796:8:7;8", i);
+// The length of a list, its first number and its last.
+fn list_ends(room: &[u16], len: usize) {
+    number(len as u64);
+    if 0 < len {
+        if len <= room.len() {
+            number(wide(room[0]));
+            number(wide(room[len - 1]));
+        }
     }
-    sig
 }
 
-// Every axis, level and block of Ten and Five.
-fn each_of(ten: &[u16], five: &[u16]) {
-    each_axis(b"ten\n", ten, 10, 12);
-    each_axis(b"five\n", five, 5, 3);
-    entries_told(b"ten, levels and blocks", ten, 12);
-    entries_told(b"five, levels and blocks", five, 7);
+// The ends of an answer in a large tree.
+fn ends(sig: &[u16], contexts: &[u16], axis: u16, position: u16) {
+    let mut room = [0u16; 4096];
+    let answer = axes::axis(sig, contexts, axis, 0, position, &mut room);
+    number(wide(axis));
+    match answer {
+        Written::Length(len) => list_ends(&room, len),
+        Written::Refused(refusal) => refused(refusal),
+    }
+    text(b" /");
 }
 
-fn small(ten: &[u16]) {
-    each_of(
-        ten,
-        &[
-            1u16,
-            5,
-            6,
-            0,
-            1,
-            1,
-            3,
-            1,
-            1,
-            4,
-            6,
-            1,
-            1,
-            2,
-            5,
-            3,
-            1,
-            3,
-            6,
-            3,
-        ],
-    );
-    each_axis_many(ten);
-    rooms(ten);
-    arguments(ten, 0);
-    arguments(ten, 1);
-    signatures();
+fn each_axis_ends(sig: &[u16], contexts: &[u16], position: u16) {
+    for axis in 0..11u16 {
+        ends(sig, contexts, axis, position);
+    }
+    text(b"\n");
 }
 
-fn large_trees(all: &[u16]) {
-    io::write_all(STDOUT_FILENO, b"chain\n");
-    large(&long_chain(), all);
-    io::write_all(STDOUT_FILENO, b"flat\n");
-    large(&broad_tree(), all);
+// What one call says, with the room that it leaves.
+fn asked(sig: &[u16], contexts: &[u16], axis: u16, position: u16, room: &mut [u16]) {
+    told(axes::axis(sig, contexts, axis, 0, position, &mut *room));
+    room_left(&*room);
+}
+
+fn one_call(list: &[u8], v: [u16; 3], sig: &[u16], contexts: &[u16]) {
+    let mut room = [0u16; 11];
+    let width = numbers_into(list, &mut room);
+    if width <= 11 {
+        asked(sig, contexts, v[1], v[2], &mut room[0..width]);
+    }
+}
+
+fn tried(line: &[u8], v: [u16; 3], sig: &[u16], contexts: &[u16]) {
+    text(field(line, 0));
+    match v[0] {
+        CALL => one_call(field(line, 4), v, sig, contexts),
+        ALL => each_axis(sig, v[1], v[2]),
+        LEVELS => entries_told(sig, v[1], v[2]),
+        ENDS => each_axis_ends(sig, contexts, v[2]),
+        _ => text(b"\n"),
+    }
+}
+
+fn case(line: &[u8]) {
+    let mut v = [0u16; 3];
+    numbers_into(field(line, 1), &mut v);
+    let mut sig = [0u16; 16388];
+    let n = tree_into(field(line, 2), &mut sig);
+    let mut contexts = [0u16; 4096];
+    let m = tree_into(field(line, 3), &mut contexts);
+    if 0 < v[0] {
+        tried(line, v, front(&sig, n), front(&contexts, m));
+    }
+}
+
+fn each_case(lines: &[u8]) {
+    let mut from = 0;
+    while from < lines.len() {
+        let line = line_of(&lines[from..]);
+        case(line);
+        from += line.len() + 1;
+    }
 }
 
 fn main() {
-    small(&ten());
-    large_trees(&all_ranks());
+    let mut lines = io::large_buffer();
+    let count = io::read_full(STDIN_FILENO, &mut lines);
+    each_case(&lines[..count]);
 }

@@ -1,150 +1,98 @@
 // Tries the check at the edges that document 01 does not star, and prints what it says; what is printed is compared with the file stdout.
 // A line has the case's label, what stopped the turn (0 an answer, 1 the end, 2 the budget, 3 a refusal), the refusal's number and entry,
-// the steps, and the state handed back. Small signatures are written as hexadecimal digits, a digit for each number.
-ghost use Prim.Native.Nat.{ℕ, _≤_};
-
-mod shapes;
-mod ten;
-mod told;
-mod words;
-
+// the steps, and the state handed back. The cases are the lines of the file stdin that have fields: the label; what is tried (`turn` one turn, `whole` the
+// whole check, `cut` a fresh turn and then the rest), the kind of tree, the budget, and next, top and closed of the state; and the signature.
 use checking::CheckState;
-use checking::Kind;
+use checking::CheckTurn;
 use checking::PostRank;
 use checking::PreRank;
-use shapes::fill;
-use shapes::spread;
-use ten::TEN;
-use told::judged;
-use told::shown;
+use checking::Verdict;
+use libc::STDIN_FILENO;
+use trial_lines::field;
+use trial_lines::front;
+use trial_lines::kind_of;
+use trial_lines::line_of;
+use trial_lines::number;
+use trial_lines::numbers_into;
+use trial_lines::refused;
+use trial_lines::stopped;
+use trial_lines::text;
+use trial_lines::tree_into;
+use trial_lines::wide;
 
-// A turn from the fresh state.
-fn tried(label: u64, kind: Kind, sig: &[u16], budget: u64) {
-    let fresh = CheckState::fresh();
-    shown(label, fresh.turn(kind, sig, budget));
+// What is tried, as words of a line.
+const TURN: u16 = 116;
+
+const WHOLE: u16 = 119;
+
+const CUT: u16 = 99;
+
+fn shown(label: &[u8], turn: CheckTurn) {
+    text(label);
+    let stop = turn.stop;
+    stopped(stop);
+    number(turn.steps);
+    number(wide(turn.state.next.0));
+    number(wide(turn.state.top.0));
+    number(wide(turn.state.closed.0));
+    text(b"\n");
 }
 
-// A turn from the fresh state, of a signature of len digits.
-fn tried_digits(label: u64, kind: Kind, digits: u64, len: usize, budget: u64)
-    requires { ⌜ len ≤ 16 ⌝ }
-{
-    let mut sig = [0u16; 16];
-    spread(&mut sig, digits);
-    let from = 16 - len;
-    tried(label, kind, &sig[from..16], budget);
-}
-
-// A turn from the fresh state, of a signature of len ones.
-fn tried_ones(label: u64, kind: Kind, len: usize)
-    requires { ⌜ len ≤ 16389 ⌝ }
-{
-    let sig = [1u16; 16389];
-    tried(label, kind, &sig[0..len], 9);
-}
-
-// A turn from the fresh state, of a signature of n elements in a shape.
-fn tried_shape(label: u64, kind: Kind, shape: u16, n: usize, budget: u64)
-    requires { ⌜ n ≤ 4097 ⌝ }
-{
-    let mut sig = [0u16; 16388];
-    fill(&mut sig, shape, n);
-    let len = 4 * n;
-    tried(label, kind, &sig[0..len], budget);
-}
-
-// The whole check of such a signature.
-fn whole_shape(label: u64, kind: Kind, shape: u16, n: usize)
-    requires { ⌜ n ≤ 4097 ⌝ }
-{
-    let mut sig = [0u16; 16388];
-    fill(&mut sig, shape, n);
-    let len = 4 * n;
-    judged(label, checking::check_whole(kind, &sig[0..len]));
-}
-
-// A turn from a state as it is handed over.
-fn went_on(label: u64, state: CheckState, sig: &[u16], budget: u64) {
-    shown(label, state.turn(Kind::Data, sig, budget));
-}
-
-// A turn from a state of these numbers, of a signature of eight digits.
-fn resumed(label: u64, next: u16, top: u16, closed: u16, digits: u64, budget: u64) {
-    let mut sig = [0u16; 8];
-    spread(&mut sig, digits);
-    let state = CheckState {
-        next: PreRank(next),
-        top: PreRank(top),
-        closed: PostRank(closed),
-    };
-    went_on(label, state, &sig, budget);
+fn judged(label: &[u8], verdict: Verdict) {
+    text(label);
+    match verdict {
+        Verdict::Accepted => text(b" accepted"),
+        Verdict::Refused(refusal) => refused(refusal),
+    }
+    text(b"\n");
 }
 
 // A turn of b steps and then the rest: the states and sums are those of one turn.
-fn cut(sig: &[u16], b: u64) {
-    let first = CheckState::fresh().turn(Kind::Data, sig, b);
-    shown(words::CUT, first);
+fn cut(label: &[u8], kind: u16, sig: &[u16], b: u64) {
+    let first = CheckState::fresh().turn(kind_of(kind), sig, b);
+    shown(label, first);
     let state = first.state;
-    went_on(words::THEN, state, sig, 1000);
+    shown(b"then", state.turn(kind_of(kind), sig, 1000));
 }
 
-fn cuts(sig: &[u16]) {
-    let mut b = 0;
-    while b < 22 {
-        cut(sig, b);
-        b += 1;
+fn tried(label: &[u8], v: [u16; 6], sig: &[u16]) {
+    if v[0] == TURN {
+        let state = CheckState {
+            next: PreRank(v[3]),
+            top: PreRank(v[4]),
+            closed: PostRank(v[5]),
+        };
+        shown(label, state.turn(kind_of(v[1]), sig, wide(v[2])));
+        return;
+    }
+    if v[0] == WHOLE {
+        judged(label, checking::check_whole(kind_of(v[1]), sig));
+        return;
+    }
+    if v[0] == CUT {
+        cut(label, v[1], sig, wide(v[2]));
     }
 }
 
-fn lengths() {
-    tried_digits(words::EMPTY, Kind::Data, 0, 0, 9);
-    tried_digits(words::FIVE, Kind::Data, 0x11201, 5, 9);
-    tried_ones(words::CUT, Kind::Data, 16389);
-    tried_ones(words::OVER, Kind::Data, 16388);
-    tried_ones(words::TWIG, Kind::Twig, 68);
+fn case(line: &[u8]) {
+    let mut v = [0u16; 6];
+    numbers_into(field(line, 1), &mut v);
+    let mut sig = [0u16; 16389];
+    let len = tree_into(field(line, 2), &mut sig);
+    tried(field(line, 0), v, front(&sig, len));
 }
 
-// A shape at the greatest size of a data tree and with one element more, and as twigs of 16 and 17.
-fn sizes(shape: u16) {
-    tried_shape(words::MOST, Kind::Data, shape, 4096, 8192);
-    tried_shape(words::LESS, Kind::Data, shape, 4096, 8191);
-    whole_shape(words::WHOLE, Kind::Data, shape, 4096);
-    tried_shape(words::ONE_MORE, Kind::Data, shape, 4097, 8194);
-    tried_shape(words::SIXTEEN, Kind::Twig, shape, 16, 32);
-    whole_shape(words::SEVENTEEN, Kind::Twig, shape, 17);
-}
-
-// Refusals at an entry that would open, then at an element that would close, and at one whose parent is closed; each by an input made for it.
-fn refusals() {
-    tried_digits(words::NAME, Kind::Data, 0x0120, 4, 9);
-    tried_digits(words::ANY, Kind::Twig, 0x0120, 4, 9);
-    tried_digits(words::FA, Kind::Data, 0x1121, 4, 9);
-    tried_digits(words::ROOTS, Kind::Data, 0x52305130, 8, 1);
-    tried_digits(words::ROOTS, Kind::Data, 0x52305130, 8, 2);
-    tried_digits(words::POST, Kind::Data, 0x51305231, 8, 9);
-    tried_digits(words::FF, Kind::Data, 0x52305121, 8, 9);
-    tried_digits(words::SHUT, Kind::Data, 0x1340113112411452, 16, 9);
-}
-
-// Altered states out of the ranges, the last one with no step to spend, then within them, the finished one with no step to spend.
-fn states() {
-    resumed(words::NEXT_0, 0, 0, 0, 0x52305131, 9);
-    resumed(words::NEXT_4, 4, 0, 0, 0x52305131, 9);
-    resumed(words::TOP, 2, 2, 0, 0x52305131, 9);
-    resumed(words::CLOSED, 2, 1, 2, 0x52305131, 9);
-    resumed(words::OUT, 65535, 65535, 65535, 0x52305131, 0);
-    resumed(words::FULL, 3, 2, 2, 0x52305131, 9);
-    resumed(words::FIRST, 2, 1, 1, 0x52305130, 9);
-    resumed(words::DONE, 3, 0, 1, 0x52305131, 0);
-    resumed(words::UP, 3, 2, 0, 0x52305132, 9);
-    resumed(words::NONE, 2, 0, 0, 0x52305131, 9);
+fn each_case(lines: &[u8]) {
+    let mut from = 0;
+    while from < lines.len() {
+        let line = line_of(&lines[from..]);
+        case(line);
+        from += line.len() + 1;
+    }
 }
 
 fn main() {
-    cuts(&TEN);
-    lengths();
-    sizes(0);
-    sizes(1);
-    sizes(2);
-    refusals();
-    states();
+    let mut lines = io::large_buffer();
+    let count = io::read_full(STDIN_FILENO, &mut lines);
+    each_case(&lines[..count]);
 }

@@ -1,124 +1,131 @@
 // Tries preparing and walking at the edges that document 01 does not star, and prints what they say; what is printed is compared with the file stdout.
 // A line has the case's name, what stopped the turn (0 an answer, 1 the end, 2 the budget, 3 a refusal), the refusal's number and entry, the steps,
 // and the state handed back: the next entry, or node, candidate, phase (0 walking, 1 at an answer, 2 ended) and the images.
-mod altered;
-mod lines;
-mod menus;
+// The cases are the lines of the file stdin that have fields: the label; what is tried, the length of the table, and numbers; the signature, the twig, and what
+// the table holds before the call, if not what the case before left. Tried are: `start`, the start call for so many entries; `prepare`, a whole preparation of
+// so many entries in turns of so many steps; `walk`, a whole walk, by the kind of its budgets, the number of answers that is enough, and whether each is
+// printed; `Prepare`, one turn, by the next entry and the budget; `Walk`, one turn, by three images, node, candidate, phase and budget; `table`, nothing: the
+// table is printed.
 mod shown;
 mod whole;
 
-use altered::altered;
-use altered::refused;
-use libc::STDOUT_FILENO;
-use menus::fill_chain;
-use menus::fill_groups;
-use menus::five;
-use menus::ten;
-use shown::number;
+use checking::PreRank;
+use libc::STDIN_FILENO;
+use preparing::Prep;
+use shown::shown_prep;
+use shown::shown_walk;
 use shown::started;
-use shown::tabled;
-use whole::cuts;
+use trial_lines::field;
+use trial_lines::front;
+use trial_lines::great;
+use trial_lines::line_of;
+use trial_lines::numbers;
+use trial_lines::numbers_into;
+use trial_lines::size;
+use trial_lines::text;
+use trial_lines::tree_into;
+use trial_lines::wide;
+use walk_ranges::Phase;
+use walking::Walk;
 use whole::prepare;
-use whole::prepares;
 use whole::walk;
+
+// What is tried, as words of a line.
+const START: u16 = 115;
+
+const PREPARE: u16 = 112;
+
+const WALK: u16 = 119;
+
+const PREPARE_ONCE: u16 = 80;
+
+const WALK_ONCE: u16 = 87;
+
+// The phase of a number: 0 walking, 1 at an answer, 2 ended.
+fn phase_at(x: u16) -> Phase {
+    match x {
+        0 => Phase::Walking,
+        1 => Phase::Answer,
+        _ => Phase::Ended,
+    }
+}
+
+// A turn of walking from the walk of a case.
+fn walk_turn(v: [u16; 9], sig: &[u16], twig: &[u16], table: &[u16]) {
+    let mut images = [0u16; 16];
+    images[0] = v[2];
+    images[1] = v[3];
+    images[2] = v[4];
+    let phase = phase_at(v[7]);
+    let state = Walk {
+        images,
+        node: v[5],
+        candidate: PreRank(v[6]),
+        phase,
+    };
+    shown_walk(state.turn(sig, twig, table, wide(v[8])));
+}
+
+fn prepare_turn(v: [u16; 9], sig: &[u16], twig: &[u16], table: &mut [u16]) {
+    let state = Prep {
+        next: PreRank(v[2]),
+    };
+    shown_prep(state.turn(sig, twig, table, wide(v[3])));
+}
+
+// Prints every number of the table.
+fn tabled(table: &[u16]) {
+    numbers(table);
+    text(b"\n");
+}
 
 // A start call, with what it leaves.
 fn start(n: u64, table: &mut [u16]) {
-    io::write_all(STDOUT_FILENO, b"start");
-    number(n);
-    let answer = starting::prepare_start(n, &mut *table);
-    started(answer);
+    started(starting::prepare_start(n, &mut *table));
     tabled(&*table);
 }
 
-// The start call at its edges.
-fn starts() {
-    let mut table = [9u16; 12];
-    start(0, &mut table);
-    start(4097, &mut table);
-    start(7, &mut table);
-    start(6, &mut table);
+fn tried(v: [u16; 9], sig: &[u16], twig: &[u16], table: &mut [u16]) {
+    match v[0] {
+        START => start(wide(v[2]), table),
+        PREPARE => prepare(sig, twig, table, wide(v[2]), great(v[3])),
+        WALK => walk(sig, twig, &*table, v[2], wide(v[3]), v[4] == 1),
+        PREPARE_ONCE => prepare_turn(v, sig, twig, table),
+        WALK_ONCE => walk_turn(v, sig, twig, &*table),
+        _ => tabled(&*table),
+    }
 }
 
-fn start_five() {
-    let mut table = [9u16; 12];
-    start(5, &mut table);
+fn case(line: &[u8], table: &mut [u16]) {
+    let mut v = [0u16; 9];
+    numbers_into(field(line, 1), &mut v);
+    let mut sig = [0u16; 16388];
+    let n = tree_into(field(line, 2), &mut sig);
+    let mut twig = [0u16; 68];
+    let m = tree_into(field(line, 3), &mut twig);
+    numbers_into(field(line, 4), &mut *table);
+    if v[0] == 0 {
+        return;
+    }
+    text(field(line, 0));
+    let width = size(v[1]);
+    if width <= table.len() {
+        tried(v, front(&sig, n), front(&twig, m), &mut table[0..width]);
+    }
 }
 
-// Five and Ten, prepared and walked.
-fn tabled_whole(sig: &[u16], twig: &[u16], table: &mut [u16]) {
-    prepares(sig, twig, &mut *table, 5);
-    io::write_all(STDOUT_FILENO, b"table");
-    tabled(&*table);
-    cuts(sig, twig, &*table);
-}
-
-fn whole_five() {
-    let mut table = [9u16; 12];
-    tabled_whole(&five(), &[1u16, 2, 3, 0, 1, 1, 3, 1], &mut table);
-}
-
-fn untabled_whole(sig: &[u16], twig: &[u16], table: &mut [u16]) {
-    prepares(sig, twig, &mut *table, 10);
-    cuts(sig, twig, &*table);
-}
-
-fn whole_ten(twig: &[u16]) {
-    let mut table = [9u16; 20];
-    untabled_whole(&ten(), twig, &mut table);
-}
-
-fn tens() {
-    whole_ten(&[8u16, 3, 4, 0, 9, 1, 3, 1, 10, 2, 4, 1]);
-    whole_ten(&[0u16, 2, 3, 0, 0, 1, 3, 1]);
-}
-
-// A tree of 4,096 elements, prepared in turns of budget steps and walked.
-fn large(sig: &[u16], twig: &[u16], budget: u64, kind: u64, enough: u64, print: bool) {
-    let mut table = [0u16; 8192];
-    prepare(sig, twig, &mut table, 4096, budget);
-    walk(sig, twig, &table, kind, enough, print);
-}
-
-// A chain with a chain of sixteen nodes, and the same with two nodes.
-fn chains() {
-    let mut sig = [0u16; 16384];
-    fill_chain(&mut sig, 4096);
-    let mut twig = [0u16; 64];
-    fill_chain(&mut twig, 16);
-    large(&sig, &twig, 1000, 5, 3, true);
-    large(&sig, &[1u16, 2, 3, 0, 2, 1, 3, 1], 100, 5, 5000, false);
-}
-
-// The tree of half matches.
-fn half_matches() {
-    let mut sig = [0u16; 16384];
-    fill_groups(&mut sig);
-    large(
-        &sig,
-        &[2u16, 3, 4, 0, 3, 1, 3, 1, 4, 2, 4, 1],
-        4096,
-        5,
-        5000,
-        true,
-    );
-    large(
-        &sig,
-        &[1u16, 4, 5, 0, 2, 3, 5, 1, 3, 1, 4, 2, 4, 2, 5, 2],
-        4096,
-        4,
-        5000,
-        false,
-    );
+fn each_case(lines: &[u8], table: &mut [u16]) {
+    let mut from = 0;
+    while from < lines.len() {
+        let line = line_of(&lines[from..]);
+        case(line, &mut *table);
+        from += line.len() + 1;
+    }
 }
 
 fn main() {
-    starts();
-    start_five();
-    whole_five();
-    tens();
-    chains();
-    half_matches();
-    refused();
-    altered();
+    let mut lines = io::large_buffer();
+    let count = io::read_full(STDIN_FILENO, &mut lines);
+    let mut table = [0u16; 8192];
+    each_case(&lines[..count], &mut table);
 }

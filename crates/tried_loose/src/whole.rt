@@ -1,15 +1,15 @@
-// Whole preparations and whole walks, cut in every way.
-use crate::shown::end_line;
-use crate::shown::number;
+// Whole preparations and whole walks, in turns.
 use crate::shown::shown_walk;
-use crate::shown::stop_number;
-use crate::shown::stopped;
-use crate::shown::wide;
 use checking::PreRank;
 use checking::Stop;
-use libc::STDOUT_FILENO;
 use preparing::Prep;
 use preparing::Started;
+use std::num::wrapping_add_u64;
+use trial_lines::number;
+use trial_lines::stop_number;
+use trial_lines::stopped;
+use trial_lines::text;
+use trial_lines::wide;
 use walking::Walk;
 use walking::WalkTurn;
 
@@ -17,7 +17,7 @@ use walking::WalkTurn;
 pub fn prepare(sig: &[u16], twig: &[u16], table: &mut [u16], n: u64, budget: u64) {
     let start = starting::prepare_start(n, &mut *table);
     let Started::Fresh(fresh) = start else {
-        io::write_all(STDOUT_FILENO, b"not started\n");
+        text(b"not started\n");
         return;
     };
     prepare_from(sig, twig, &mut *table, fresh.next.0, budget);
@@ -32,36 +32,28 @@ fn prepare_from(sig: &[u16], twig: &[u16], table: &mut [u16], first: u16, budget
             next: PreRank(next),
         }.turn(sig, twig, &mut *table, budget);
         next = turn.state.next.0;
-        sum = added(sum, turn.steps);
+        sum = wrapping_add_u64(sum, turn.steps);
         let stop = turn.stop;
         if stop_number(stop) != 2 {
             prepared(stop, sum, next);
             return;
         }
     }
-    io::write_all(STDOUT_FILENO, b"too many turns\n");
+    text(b"too many turns\n");
 }
 
 fn prepared(stop: Stop, sum: u64, next: u16) {
-    io::write_all(STDOUT_FILENO, b"prepared");
+    text(b"prepared");
     stopped(stop);
     number(sum);
     number(wide(next));
-    end_line();
-}
-
-// x + y, or the greatest number.
-fn added(x: u64, y: u64) -> u64 {
-    if 18446744073709551615 - x < y {
-        return 18446744073709551615;
-    }
-    x + y
+    text(b"\n");
 }
 
 // A budget of the given kind: 1 to 3 that many steps, 4 seeded, else the greatest number.
-fn spend(kind: u64, seed: u64) -> u64 {
+fn spend(kind: u16, seed: u64) -> u64 {
     if kind <= 3 {
-        return kind;
+        return wide(kind);
     }
     if kind == 4 {
         return seed % 7 + 1;
@@ -83,36 +75,24 @@ struct Tally {
 
 // The tally after a turn that the number says the stop of.
 fn counted(tally: Tally, steps: u64, stop: u64) -> Tally {
-    let sum = added(tally.sum, steps);
-    let gap = added(tally.gap, steps);
+    let sum = wrapping_add_u64(tally.sum, steps);
+    let gap = wrapping_add_u64(tally.gap, steps);
+    let answers = tally.answers;
+    let most = tally.most;
     if stop == 2 {
         return Tally {
-            answers: tally.answers,
+            answers,
             sum,
             gap,
-            most: tally.most,
+            most,
         };
     }
-    reached(tally.answers, sum, greater(gap, tally.most), stop)
-}
-
-// The tally at a stop.
-fn reached(answers: u64, sum: u64, most: u64, stop: u64) -> Tally {
-    let more = if stop == 0 {
-        added(answers, 1)
-    } else {
-        answers
-    };
     Tally {
-        answers: more,
+        answers: wrapping_add_u64(answers, if stop == 0 { 1 } else { 0 }),
         sum,
         gap: 0,
-        most,
+        most: if gap < most { most } else { gap },
     }
-}
-
-fn greater(x: u64, y: u64) -> u64 {
-    if x < y { y } else { x }
 }
 
 // Whether a walk goes on after a stop: not after the end or a refusal, and not with enough answers.
@@ -126,17 +106,17 @@ fn goes_on(stop: u64, answers: u64, enough: u64) -> bool {
     answers < enough
 }
 
-// Prints where a turn came to, unless its budget stopped it.
-fn reported(turn: WalkTurn, stop: u64) {
-    if stop != 2 {
-        io::write_all(STDOUT_FILENO, b"at");
+// Prints where a turn came to, if asked and unless its budget stopped it.
+fn reported(turn: WalkTurn, stop: u64, print: bool) {
+    if print & (stop != 2) {
+        text(b"at");
         shown_walk(turn);
     }
 }
 
 // Walks from the fresh walk to the end, or to the given number of answers, in turns of the given kind. Prints the answers if asked, then what stopped
 // the last turn, the number of answers, the steps in all, and the most steps from the start or an answer to the next answer or the end, beside 2×m×n+1.
-pub fn walk(sig: &[u16], twig: &[u16], table: &[u16], kind: u64, enough: u64, print: bool) {
+pub fn walk(sig: &[u16], twig: &[u16], table: &[u16], kind: u16, enough: u64, print: bool) {
     let mut state = Walk::fresh();
     let mut tally = Tally {
         answers: 0,
@@ -152,25 +132,23 @@ pub fn walk(sig: &[u16], twig: &[u16], table: &[u16], kind: u64, enough: u64, pr
         let how = stop_number(stop);
         state = turn.walk;
         tally = counted(tally, turn.steps, how);
-        if print {
-            reported(turn, how);
-        }
+        reported(turn, how, print);
         if !goes_on(how, tally.answers, enough) {
-            told(tally, stop, limit(sig.len() / 4, twig.len() / 4));
+            walked(tally, stop, limit(sig.len() / 4, twig.len() / 4));
             return;
         }
     }
-    io::write_all(STDOUT_FILENO, b"too many turns\n");
+    text(b"too many turns\n");
 }
 
-fn told(tally: Tally, stop: Stop, most: u64) {
-    io::write_all(STDOUT_FILENO, b"walked");
+fn walked(tally: Tally, stop: Stop, most: u64) {
+    text(b"walked");
     stopped(stop);
     number(tally.answers);
     number(tally.sum);
     number(tally.most);
     number(most);
-    end_line();
+    text(b"\n");
 }
 
 // 2×m×n+1
@@ -182,29 +160,4 @@ fn limit(n: usize, m: usize) -> u64 {
         return 0;
     }
     (2 * m * n + 1) as u64
-}
-
-// One turn from the fresh walk.
-pub fn begun(label: &[u8], sig: &[u16], twig: &[u16], table: &[u16], budget: u64) {
-    io::write_all(STDOUT_FILENO, label);
-    shown_walk(Walk::fresh().turn(sig, twig, table, budget));
-}
-
-// Whole walks on a tree, cut in every way, over one table.
-pub fn cuts(sig: &[u16], twig: &[u16], table: &[u16]) {
-    begun(b"none", sig, twig, table, 0);
-    for kind in 1..6u64 {
-        walk(sig, twig, table, kind, 1000, kind == 5);
-    }
-}
-
-// Preparing cut in every way.
-pub fn prepares(sig: &[u16], twig: &[u16], table: &mut [u16], n: u64) {
-    for kind in 1..5u64 {
-        prepare(sig, twig, &mut *table, n, cut(kind));
-    }
-}
-
-fn cut(kind: u64) -> u64 {
-    if kind < 4 { kind } else { 18446744073709551615 }
 }

@@ -5,13 +5,10 @@ use Rattle.tried_ordered.proofs.all_pairs.Statement.{statement}
 use Rattle.tried_ordered.proofs.all_pairs.Tie as tie
 
 abbrev Inv-loop : tie.InvT-loop
-Inv-loop label sig twig i₀ i = i ≤ 49
+Inv-loop sig twig i₀ i = i ≤ 49
 
 abbrev μ-loop : tie.MeasureT-loop
-μ-loop label sig twig i₀ i = 49 - i
-
-line-requires : tie.Need-line-requires Inv-loop μ-loop
-line-requires c κs = search needs
+μ-loop sig twig i₀ i = 49 - i
 
 loop-holds : tie.Need-loop-holds Inv-loop μ-loop
 loop-holds c = search needs
@@ -34,13 +31,4 @@ returns c = search needs
 pub all-pairs-spec : {M : Type 1} → statement M
 all-pairs-spec =
     tie.close
-    (tie.spec
-    Inv-loop
-    μ-loop
-    line-requires
-    loop-holds
-    after-requires
-    add-i
-    loop-less
-    loop-again
-    returns)
+    (tie.spec Inv-loop μ-loop loop-holds after-requires add-i loop-less loop-again returns)

@@ -28,11 +28,11 @@ loop-less c = search needs
 loop-again : tie.Need-loop-again Inv-loop μ-loop
 loop-again c = search needs
 
-slice-aggregate-line : tie.Need-slice-aggregate-line Inv-loop μ-loop
-slice-aggregate-line c = search needs
+slice-aggregate-text : tie.Need-slice-aggregate-text Inv-loop μ-loop
+slice-aggregate-text c = search needs
 
-line-requires : tie.Need-line-requires Inv-loop μ-loop
-line-requires c κs = search needs
+text-requires : tie.Need-text-requires Inv-loop μ-loop
+text-requires c κs = search needs
 
 returns-2 : tie.Need-returns-2 Inv-loop μ-loop
 returns-2 c = search needs
@@ -49,6 +49,6 @@ listed-spec =
     add-i
     loop-less
     loop-again
-    slice-aggregate-line
-    line-requires
+    slice-aggregate-text
+    text-requires
     returns-2)
