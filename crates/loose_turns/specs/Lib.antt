@@ -4,3 +4,4 @@ pub mod Trails
 pub mod Prepared
 pub mod Walked
 pub mod Tried
+pub mod Passing
