@@ -1,15 +1,14 @@
 -- Which case of a definition holds under which facts.
 --   ancestor-is, before-is   two tests of the axes, by ff
---   self-…, child-no, sibling-…, chosen-…   the tests of the axes
---   between-no   a rank that does not lie between two others
+--   self-…, chosen-…   the tests of the axes
 --   axis-…       which test an axis is
-use Prim.Native.Nat.{ℕ, _-_, _≤_, _<_}
-use mathlib.Core.Path.{_≡_, refl, ap, _∙_, sym}
-use mathlib.Core.Logic.{_⊎_, inl, inr, ⊎-elim}
-use mathlib.Core.Bool.{Bool, true, false, not, _&&_, and-false, and-true, true≢false}
+use Prim.Native.Nat.{ℕ, _≤_, _<_}
+use mathlib.Core.Path.{_≡_, ap, _∙_, sym}
+use mathlib.Core.Logic.{⊎-elim}
+use mathlib.Core.Bool.{Bool, true, false, _&&_, and-false}
 use native.Mathlib.Omega.{arith}
 use lib.Dec.{ltb, leb, eqb}
-use borrow.Author.Tests.{lt-ltb, le-ltb, le-leb, lt-leb, eq-eqb, ne-eqb, leb-false}
+use borrow.Author.Tests.{lt-ltb, le-ltb, le-leb, lt-leb, eq-eqb, ne-eqb}
 use Rattle.turns.specs.Truth.{and-both}
 use Rattle.trees.specs.Names.{passes}
 use Rattle.trees.specs.Facts.{Facts}
@@ -42,33 +41,7 @@ module _ (n : ℕ) (parent : ℕ → ℕ) (a j : ℕ) where
   unfolding ancestorOrSelf
   self-other h = simp (ne-eqb _ _ h)
 
-module _ (parent : ℕ → ℕ) (a j : ℕ) where
-  pub child-no : (parent j ≡ a → ⊥) → parentOf parent a j ≡ false
-  unfolding parentOf
-  child-no h = ne-eqb _ _ h
-
-  pub sibling-is : (up : ℕ) (b : Bool) → up ≡ parent a → b ≡ parentOf parent up j → (ltb a j && (not (eqb up 0) && b)) ≡ siblingBefore parent a j
-  unfolding siblingBefore
-  sibling-is up b q h =
-      ap (λ (x : Bool). ltb a j && (not (eqb up 0) && x)) h ∙ ap (λ (x : ℕ). ltb a j && (not (eqb x 0) && parentOf parent x j)) q
-
-  pub sibling-early : j ≤ a → siblingBefore parent a j ≡ false
-  unfolding siblingBefore
-  sibling-early h = simp (le-ltb _ _ h)
-
-  pub sibling-root : parent a ≡ 0 → siblingBefore parent a j ≡ false
-  unfolding siblingBefore
-  sibling-root h = simp (eq-eqb _ _ h, and-false)
-
-  pub sibling-parent : a < j → (parent a ≡ 0 → ⊥) → siblingBefore parent a j ≡ parentOf parent (parent a) j
-  unfolding siblingBefore
-  sibling-parent h g = simp (lt-ltb _ _ h, ne-eqb _ _ g)
-
 module _ (axis n : ℕ) (parent name : ℕ → ℕ) (test c j : ℕ) where
-  pub chosen-named : passes test (name j) ≡ true → chosen axis n parent name test c j ≡ onAxis axis n parent c j
-  unfolding chosen
-  chosen-named h = simp (h, and-true)
-
   pub chosen-on : onAxis axis n parent c j ≡ true → chosen axis n parent name test c j ≡ passes test (name j)
   unfolding chosen
   chosen-on h = simp h
@@ -76,21 +49,6 @@ module _ (axis n : ℕ) (parent name : ℕ → ℕ) (test c j : ℕ) where
   pub chosen-off : onAxis axis n parent c j ≡ false → chosen axis n parent name test c j ≡ false
   unfolding chosen
   chosen-off h = simp h
-
-  pub chosen-other : passes test (name j) ≡ false → chosen axis n parent name test c j ≡ false
-  unfolding chosen
-  chosen-other h = simp (h, and-false)
-
--- ---- a rank between two others
-
-module _ (j c last : ℕ) where
-  pub between-no : (leb j c && leb c last) ≡ false → (c < j) ⊎ (last < c)
-  between-no q = go (leb j c) (leb c last) refl refl q
-    where
-      go : (a b : Bool) → leb j c ≡ a → leb c last ≡ b → (a && b) ≡ false → (c < j) ⊎ (last < c)
-      go true true x y z = absurd (true≢false z)
-      go true false x y z = inr (leb-false c last y)
-      go false b x y z = inl (leb-false j c x)
 
 -- ---- which test an axis is
 

@@ -29,9 +29,9 @@ use Rattle.xpath.specs.Axes.{met, ancestorOf, ancestorOrSelf, chosen, pth, kept
 use Rattle.xpath.specs.Ancestors.{inside-yes, inside-no}
 use Rattle.xpath.specs.Levels.{above-other}
 use Rattle.marks.proofs.Marking.{count-yes, count-no}
-use Rattle.axes.specs.Range.{Only}
+use Rattle.searching.specs.Only.{Only}
 use Rattle.axes.proofs.Cases.{self-yes, self-other, chosen-off, chosen-on, axis-ancestor, axis-ancestor-or-self}
-use Rattle.axes.proofs.Found.{count-skip, only-hit, only-none}
+use Rattle.searching.proofs.Found.{count-skip, only-hit, only-none}
 
 -- j is start or an ancestor of it, or 0
 pub record Way (e : Entries) (start j : ℕ) : Type 0 where

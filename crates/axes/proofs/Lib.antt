@@ -1,4 +1,5 @@
 pub mod Cases
 pub mod Ranges
-pub mod Found
+pub mod Rows
+pub mod Arms
 pub mod Climbs

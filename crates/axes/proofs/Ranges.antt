@@ -1,255 +1,193 @@
--- Where an axis has no element.
---   …-apart      a rank that is not on the axis, by its place among the ranks
---   …-skip       nothing below j is on the axis, where c is not in the block of j
---   begin-…, end-…, pass-…   what the code's numbers say of the ranks before, after and between them
+-- Which ranks are on an axis, by the ranks where it begins and ends.
+--   same-truth, between-…    two tests that hold together; a rank between two others
+--   less-fits, less-is       one less, or 0, as the code has it
+--   on-…                     the axes with every rank of a range
+--   row-child, row-later, row-earlier   the axes of children and of siblings: the ranks of a range that have one parent
+--   before-…, none-before    the search over what precedes a context: the count, the rank at which it comes to p, none
 use Prim.Native.Nat.{ℕ, _+_, _-_, _≤_, _<_}
-use mathlib.Core.Path.{_≡_, refl, ap, _∙_}
-use mathlib.Core.List.{List}
+use mathlib.Core.Path.{_≡_, refl, ap, _∙_, sym}
 use mathlib.Core.Logic.{_⊎_, inl, inr, ⊎-elim}
-use mathlib.Core.Bool.{Bool, false, _&&_}
-use lib.Dec.{leb}
+use mathlib.Core.Bool.{Bool, true, false, not, _&&_}
+use lib.ListN.{length}
+use lib.Dec.{ltb, leb, eqb}
+use mir.Val.{boolByte}
 use native.Mathlib.Omega.{arith}
 use native.Mathlib.Decide.{ℕ-discrete}
-use native.Mathlib.Nat.{eq-or-lt-of-le}
-use borrow.Author.Tests.{ne-eqb}
+use borrow.Author.Tests.{ltb-true, leb-true, eqb-true, eqb-false, lt-ltb, le-leb, eq-eqb, ne-eqb}
+use Rattle.turns.specs.Truth.{and-left, and-right, and-both}
 use Rattle.trees.specs.Facts.{Each, Inside, Follows, Facts}
+use Rattle.trees.specs.Names.{passes}
 use Rattle.trees.specs.Order.{lt-or-ge}
-use Rattle.trees.specs.Signature.{Entries, cell, entriesOf, width}
-use Rattle.xpath.specs.Axes.{siblingBefore, onAxis}
-use Rattle.xpath.specs.Ancestors.{inside-no, whole-no}
-use Rattle.axes.specs.Range.{NoneUpTo, NoneAfter, NoneFrom}
-use Rattle.axes.proofs.Cases.{self-other, between-no, child-no, sibling-early, sibling-root, sibling-parent, axis-self, axis-child, axis-descendant, axis-descendant-or-self, axis-parent, axis-following, axis-preceding, axis-following-sibling, axis-preceding-sibling}
+use Rattle.trees.specs.Signature.{Entries}
+use Rattle.xpath.specs.Axes.{parentOf, ancestorOf, ancestorOrSelf, wholeBefore, siblingBefore, chosen, kept}
+use Rattle.xpath.specs.Ancestors.{whole-no}
+use Rattle.xpath.specs.Select.{upTo}
+use Rattle.xpath.specs.SelectLaws.{up-length}
+use Rattle.searching.specs.Only.{Only}
+use Rattle.searching.proofs.Found.{count-next, only-at, only-none}
+use Rattle.axes.specs.Row.{between, inRow}
+use Rattle.axes.proofs.Cases.{ancestor-is, before-is, self-yes, self-other, chosen-off, axis-preceding}
 
--- j is no later sibling of a
-sibling-apart : (parent : ℕ → ℕ) (a j : ℕ) → (a < j → (parent a ≡ 0 → ⊥) → parent j ≡ parent a → ⊥) → siblingBefore parent a j ≡ false
-sibling-apart parent a j h =
-    ⊎-elim (λ (l : a < j). go l (ℕ-discrete (parent a) 0)) (λ (g : j ≤ a). sibling-early parent a j g) (lt-or-ge a j)
+-- ---- tests
+
+same-truth : (a b : Bool) → (a ≡ true → b ≡ true) → (b ≡ true → a ≡ true) → a ≡ b
+same-truth true true f g = refl
+same-truth true false f g = sym (f refl)
+same-truth false true f g = g refl
+same-truth false false f g = refl
+
+module _ (after last i : ℕ) where
+  between-yes : after < i → i ≤ last → between after last i ≡ true
+  between-yes l h = and-both (ltb after i) (leb i last) (lt-ltb after i l) (le-leb i last h)
+
+  between-low : between after last i ≡ true → after < i
+  between-low t = ltb-true after i (and-left (ltb after i) (leb i last) t)
+
+  between-high : between after last i ≡ true → i ≤ last
+  between-high t = leb-true i last (and-right (ltb after i) (leb i last) t)
+
+-- one less, or 0
+pub less-is : (x : ℕ) → x - boolByte (not (eqb x 0)) ≡ x - 1
+less-is x = go (ℕ-discrete x 0)
   where
-    go : a < j → Dec (parent a ≡ 0) → siblingBefore parent a j ≡ false
-    go l (yes z) = sibling-root parent a j z
-    go l (no z) = sibling-parent parent a j l z ∙ child-no parent (parent a) j (h l z)
+    go : Dec (x ≡ 0) → x - boolByte (not (eqb x 0)) ≡ x - 1
+    go (yes z) = ap (λ (b : Bool). x - boolByte (not b)) (eq-eqb x 0 z) ∙ (let y : x - 0 ≡ x - 1 = omega arith in y)
+    go (no z) = ap (λ (b : Bool). x - boolByte (not b)) (ne-eqb x 0 z)
 
-module _ (n : ℕ) (e : Entries) (f : Facts n e) (axis c : ℕ) (lc : 1 ≤ c) (hc : c ≤ n) (j : ℕ) where
-  -- the context's own rank only, or its parent's
-  pub self-apart : axis ≡ 0 → (c ≡ j → ⊥) → onAxis axis n (e .fa) c j ≡ false
-  self-apart a h = axis-self axis n (e .fa) c j a ∙ ne-eqb c j h
+pub less-fits : (x : ℕ) → boolByte (not (eqb x 0)) ≤ x
+less-fits x = go (eqb x 0) refl
+  where
+    go : (b : Bool) → eqb x 0 ≡ b → boolByte (not b) ≤ x
+    go true e = omega arith
+    go false e = let ne : x ≡ 0 → ⊥ = eqb-false x 0 e in omega arith
 
-  pub parent-apart : axis ≡ 4 → (e .fa c ≡ j → ⊥) → onAxis axis n (e .fa) c j ≡ false
-  parent-apart a h = axis-parent axis n (e .fa) c j a ∙ child-no (e .fa) j c h
+-- ---- every rank of a range
 
-  module _ (l : 1 ≤ j) (h : j ≤ n) where
-    -- ---- not in the block of the context
-
-    pub child-apart : axis ≡ 1 → (c < j → e .ff c ≤ j) → onAxis axis n (e .fa) c j ≡ false
-    child-apart a w = axis-child axis n (e .fa) c j a ∙ child-no (e .fa) c j never
-      where
-        low : e .fa j < j
-        low = f .each j l h .fa-high
-
-        never : e .fa j ≡ c → ⊥
-        never q = omega (arith, low, w (omega (arith, low)), f .own j (omega (arith, low)) h .inside, ap (e .ff) q)
-
-    pub below-apart : axis ≡ 2 → (c < j → e .ff c ≤ j) → onAxis axis n (e .fa) c j ≡ false
-    below-apart a w = axis-descendant axis n (e .fa) c j a ∙ inside-no n e f n c j lc l h w
-
-    pub below-same-apart : axis ≡ 3 → (c ≡ j → ⊥) → (c < j → e .ff c ≤ j) → onAxis axis n (e .fa) c j ≡ false
-    below-same-apart a ne w = axis-descendant-or-self axis n (e .fa) c j a ∙ self-other n (e .fa) c j ne ∙ inside-no n e f n c j lc l h w
-
-    pub following-apart : axis ≡ 7 → j < e .ff c → onAxis axis n (e .fa) c j ≡ false
-    following-apart a w = axis-following axis n (e .fa) c j a ∙ whole-no n e f c j lc hc h w
-
-    -- ---- not before the context
-
-    pub preceding-apart : axis ≡ 8 → c ≤ j → onAxis axis n (e .fa) c j ≡ false
-    preceding-apart a w = axis-preceding axis n (e .fa) c j a ∙ whole-no n e f j c l h hc (omega (arith, f .each j l h .ff-low))
-
-    -- ---- siblings
-
-    later-is : axis ≡ 9 → (c < j → e .fa j ≡ e .fa c → ⊥) → onAxis axis n (e .fa) c j ≡ false
-    later-is a w = axis-following-sibling axis n (e .fa) c j a ∙ sibling-apart (e .fa) c j (λ q z. w q)
-
-    earlier-is : axis ≡ 10 → (j < c → e .fa c ≡ e .fa j → ⊥) → onAxis axis n (e .fa) c j ≡ false
-    earlier-is a w = axis-preceding-sibling axis n (e .fa) c j a ∙ sibling-apart (e .fa) j c (λ q z. w q)
-
-    pub later-early : axis ≡ 9 → j < e .ff c → onAxis axis n (e .fa) c j ≡ false
-    later-early a w = later-is a (λ q. go (f .pair c j lc q h))
-      where
-        go : Inside e c j ⊎ Follows e c j → e .fa j ≡ e .fa c → ⊥
-        go (inl x) r = omega (arith, x .under, f .each c lc hc .fa-high)
-        go (inr x) r = omega (arith, x .outside)
-
-    pub later-late : axis ≡ 9 → e .ff (e .fa c) ≤ j → onAxis axis n (e .fa) c j ≡ false
-    later-late a w = later-is a (λ q r. omega (arith, f .own j (omega arith) h .inside, ap (e .ff) r))
-
-    pub earlier-early : axis ≡ 10 → j ≤ e .fa c → onAxis axis n (e .fa) c j ≡ false
-    earlier-early a w = earlier-is a (λ q r. omega (arith, f .each j l h .fa-high))
-
-    pub earlier-late : axis ≡ 10 → c ≤ j → onAxis axis n (e .fa) c j ≡ false
-    earlier-late a w = earlier-is a (λ q r. absurd (omega arith))
-
--- ---- below j, where c is not in the block of j
-
-module _ (n : ℕ) (e : Entries) (f : Facts n e) (axis c : ℕ) (lc : 1 ≤ c) (hc : c ≤ n) (j : ℕ) (lj : 1 ≤ j) (out : (c < j) ⊎ (e .ff j ≤ c)) (i : ℕ) (m : j < i) (h : i ≤ n) (w : i < e .ff j) where
-  below : Inside e j i
-  below = ⊎-elim (λ (x : Inside e j i). x) (λ (x : Follows e j i). absurd (omega (arith, x .outside))) (f .pair j i lj m h)
-
-  low : e .fa i < i
-  low = f .each i (omega arith) h .fa-high
-
-  up-high : e .fa c < c
-  up-high = f .each c lc hc .fa-high
-
-  pub child-skip : axis ≡ 1 → onAxis axis n (e .fa) c i ≡ false
-  child-skip a = axis-child axis n (e .fa) c i a ∙ child-no (e .fa) c i (λ q. go q out)
-    where
-      go : e .fa i ≡ c → (c < j) ⊎ (e .ff j ≤ c) → ⊥
-      go q (inl x) = omega (arith, below .under)
-      go q (inr x) = omega (arith, low)
-
-  pub later-skip : axis ≡ 9 → onAxis axis n (e .fa) c i ≡ false
-  later-skip a = later-is n e f axis c lc hc i (omega arith) h a (λ q r. go q r out)
-    where
-      go : c < i → e .fa i ≡ e .fa c → (c < j) ⊎ (e .ff j ≤ c) → ⊥
-      go q r (inl x) = omega (arith, below .under, up-high)
-      go q r (inr x) = omega arith
-
-  pub earlier-skip : axis ≡ 10 → onAxis axis n (e .fa) c i ≡ false
-  earlier-skip a = earlier-is n e f axis c lc hc i (omega arith) h a (λ q r. go q r out)
-    where
-      own : i < c → c < e .ff (e .fa c)
-      own q = f .own c (omega arith) hc .inside
-
-      deep : e .ff j ≤ c → i < c → e .fa c ≡ e .fa i → Inside e j (e .fa c) ⊎ Follows e j (e .fa c) → ⊥
-      deep x q r (inl y) = omega (arith, own q, y .nested)
-      deep x q r (inr y) = omega (arith, low, y .outside)
-
-      go : i < c → e .fa c ≡ e .fa i → (c < j) ⊎ (e .ff j ≤ c) → ⊥
-      go q r (inl x) = omega arith
-      go q r (inr x) =
-          ⊎-elim (λ (z : j ≡ e .fa c). omega (arith, own q, ap (e .ff) z))
-          (λ (z : j < e .fa c). deep x q r (f .pair j (e .fa c) lj z (omega (arith, up-high))))
-          (eq-or-lt-of-le (let z : j ≤ e .fa c = omega (arith, below .under) in z))
-
--- ---- where an axis begins and ends
-
-module _ (n : ℕ) (e : Entries) (f : Facts n e) (axis c : ℕ) (lc : 1 ≤ c) (hc : c ≤ n) (r : ℕ) where
-  abbrev On : ℕ → Bool
-  On = onAxis axis n (e .fa) c
-
+module _ (n : ℕ) (e : Entries) (f : Facts n e) (c : ℕ) (lc : 1 ≤ c) (hc : c ≤ n) (after last i : ℕ) (l : 1 ≤ i) (h : i ≤ n) where
   own : Each n e c
   own = f .each c lc hc
 
-  pub begin-self : axis ≡ 0 → r ≡ c - 1 → NoneUpTo n On r
-  begin-self a q = record { high = omega arith; none = λ j l h. self-apart n e f axis c lc hc j a (omega arith) }
+  pub on-self : after ≡ c - 1 → last ≡ c → eqb c i ≡ between after last i
+  on-self p q =
+      same-truth (eqb c i) (between after last i)
+      (λ t. between-yes after last i (omega (arith, eqb-true c i t)) (omega (arith, eqb-true c i t)))
+      (λ t. eq-eqb c i (omega (arith, between-low after last i t, between-high after last i t)))
 
-  pub begin-child : axis ≡ 1 → r ≡ c → NoneUpTo n On r
-  begin-child a q = record { high = omega arith; none = λ j l h. child-apart n e f axis c lc hc j l (omega arith) a (λ m. absurd (omega arith)) }
+  pub on-parent : after ≡ e .fa c - 1 → last ≡ e .fa c → parentOf (e .fa) i c ≡ between after last i
+  unfolding parentOf
+  on-parent p q =
+      same-truth (eqb (e .fa c) i) (between after last i)
+      (λ t. between-yes after last i (omega (arith, eqb-true (e .fa c) i t)) (omega (arith, eqb-true (e .fa c) i t)))
+      (λ t. eq-eqb (e .fa c) i (omega (arith, between-low after last i t, between-high after last i t)))
 
-  pub begin-below : axis ≡ 2 → r ≡ c → NoneUpTo n On r
-  begin-below a q = record { high = omega arith; none = λ j l h. below-apart n e f axis c lc hc j l (omega arith) a (λ m. absurd (omega arith)) }
+  pub on-descendant : after ≡ c → last ≡ e .ff c - 1 → ancestorOf n (e .fa) c i ≡ between after last i
+  on-descendant p q = sym (ancestor-is n e f c i (e .ff c) lc h refl l) ∙ same-truth (ltb c i && ltb i (e .ff c)) (between after last i)
+      (λ t. between-yes after last i (omega (arith, ltb-true c i (and-left (ltb c i) (ltb i (e .ff c)) t)))
+      (omega (arith, ltb-true i (e .ff c) (and-right (ltb c i) (ltb i (e .ff c)) t))))
+      (λ t. and-both (ltb c i) (ltb i (e .ff c)) (lt-ltb c i (omega (arith, between-low after last i t)))
+      (lt-ltb i (e .ff c) (omega (arith, between-high after last i t, own .ff-low))))
 
-  pub begin-below-same : axis ≡ 3 → r ≡ c - 1 → NoneUpTo n On r
-  begin-below-same a q = record {
-    high = omega arith;
-    none = λ j l h. below-same-apart n e f axis c lc hc j l (omega arith) a (omega arith) (λ m. absurd (omega arith));
-  }
+  pub on-following : after ≡ e .ff c - 1 → last ≡ n → wholeBefore n (e .fa) c i ≡ between after last i
+  on-following p q = sym (before-is n e f c i (e .ff c) lc h refl hc) ∙ same-truth (leb (e .ff c) i) (between after last i)
+      (λ t. between-yes after last i (omega (arith, leb-true (e .ff c) i t, own .ff-low)) (omega arith))
+      (λ t. le-leb (e .ff c) i (omega (arith, between-low after last i t)))
 
-  pub begin-parent : axis ≡ 4 → r ≡ e .fa c - 1 → NoneUpTo n On r
-  begin-parent a q = record { high = omega (arith, own .fa-high); none = λ j l h. parent-apart n e f axis c lc hc j a (omega arith) }
+module _ (n : ℕ) (e : Entries) (f : Facts n e) (c : ℕ) (lc : 1 ≤ c) (hc : c ≤ n) (after last i : ℕ) (l : 1 ≤ i) (h : i ≤ n) where
+  pub on-descendant-or-self : after ≡ c - 1 → last ≡ e .ff c - 1 → ancestorOrSelf n (e .fa) c i ≡ between after last i
+  on-descendant-or-self p q = go (ℕ-discrete c i)
+    where
+      go : Dec (c ≡ i) → ancestorOrSelf n (e .fa) c i ≡ between after last i
+      go (yes z) = self-yes n (e .fa) c i z ∙ sym (between-yes after last i (omega arith) (omega (arith, f .each c lc hc .ff-low)))
+      go (no z) = self-other n (e .fa) c i z ∙ on-descendant n e f c lc hc c last i l h refl q ∙ same-truth (between c last i) (between after last i)
+          (λ t. between-yes after last i (omega (arith, between-low c last i t)) (between-high c last i t))
+          (λ t. between-yes c last i (omega (arith, between-low after last i t)) (between-high after last i t))
 
-  pub begin-following : axis ≡ 7 → r ≡ e .ff c - 1 → NoneUpTo n On r
-  begin-following a q = record {
-    high = omega (arith, own .ff-high);
-    none = λ j l h. following-apart n e f axis c lc hc j l (omega (arith, own .ff-high)) a (omega (arith, own .ff-low));
-  }
+-- ---- the ranks of a range that have one parent
 
-  pub begin-later : axis ≡ 9 → r ≡ e .ff c - 1 → NoneUpTo n On r
-  begin-later a q = record {
-    high = omega (arith, own .ff-high);
-    none = λ j l h. later-early n e f axis c lc hc j l (omega (arith, own .ff-high)) a (omega (arith, own .ff-low));
-  }
+module _ (n : ℕ) (e : Entries) (f : Facts n e) (c : ℕ) (lc : 1 ≤ c) (hc : c ≤ n) (after last i : ℕ) (l : 1 ≤ i) (h : i ≤ n) where
+  low : e .fa i < i
+  low = f .each i l h .fa-high
 
-  pub begin-earlier : axis ≡ 10 → r ≡ e .fa c → NoneUpTo n On r
-  begin-earlier a q = record {
-    high = omega (arith, own .fa-high);
-    none = λ j l h. earlier-early n e f axis c lc hc j l (omega (arith, own .fa-high)) a (omega arith);
-  }
+  pub row-child : after ≡ c → last ≡ e .ff c - 1 → parentOf (e .fa) c i ≡ inRow e c after last i
+  unfolding parentOf
+  row-child p q = same-truth (eqb (e .fa i) c) (inRow e c after last i) yes-row (λ t. and-right (between after last i) (eqb (e .fa i) c) t)
+    where
+      yes-row : eqb (e .fa i) c ≡ true → inRow e c after last i ≡ true
+      yes-row t =
+          let z : e .fa i ≡ c = eqb-true (e .fa i) c t in
+          let w : i < e .ff (e .fa i) = f .own i (omega (arith, low)) h .inside in
+          let y : e .ff (e .fa i) ≡ e .ff c = ap (e .ff) z in
+          and-both (between after last i) (eqb (e .fa i) c) (between-yes after last i (omega (arith, low)) (omega arith)) t
 
-  pub begin-any : r ≡ 0 → NoneUpTo n On r
-  begin-any q = record { high = omega arith; none = λ j l h. absurd (omega arith) }
+  pub row-later : (up : ℕ) → up ≡ e .fa c → after ≡ e .ff c - 1 → last ≡ e .ff up - 1 → siblingBefore (e .fa) c i ≡ inRow e up after last i
+  unfolding siblingBefore parentOf
+  row-later up u p q =
+      same-truth (ltb c i && (not (eqb (e .fa c) 0) && eqb (e .fa i) (e .fa c))) (inRow e up after last i)
+      (λ t. there (ltb-true c i (and-left (ltb c i) (not (eqb (e .fa c) 0) && eqb (e .fa i) (e .fa c)) t))
+      (eqb-true (e .fa i) (e .fa c) (and-right (not (eqb (e .fa c) 0)) (eqb (e .fa i) (e .fa c)) (and-right (ltb c i) (not (eqb (e .fa c) 0) && eqb (e .fa i) (e .fa c)) t))))
+      (λ t. back (between-low after last i (and-left (between after last i) (eqb (e .fa i) up) t)) (eqb-true (e .fa i) up (and-right (between after last i) (eqb (e .fa i) up) t)))
+    where
+      past : c < i → e .fa i ≡ e .fa c → Inside e c i ⊎ Follows e c i → e .ff c ≤ i
+      past m z (inl x) = absurd (omega (arith, x .under, f .each c lc hc .fa-high))
+      past m z (inr x) = x .outside
 
-  pub end-self : axis ≡ 0 → r ≡ c → NoneAfter n On r
-  end-self a q = record { high = omega arith; none = λ j l h. self-apart n e f axis c lc hc j a (omega arith) }
+      there : c < i → e .fa i ≡ e .fa c → inRow e up after last i ≡ true
+      there m z =
+          let g : e .ff c ≤ i = past m z (f .pair c i lc m h) in
+          let w : i < e .ff (e .fa i) = f .own i (omega arith) h .inside in
+          let y : e .ff (e .fa i) ≡ e .ff up = ap (e .ff) (z ∙ sym u) in
+          and-both (between after last i) (eqb (e .fa i) up) (between-yes after last i (omega (arith, f .each c lc hc .ff-low)) (omega arith)) (eq-eqb (e .fa i) up (z ∙ sym u))
 
-  pub end-child : axis ≡ 1 → r ≡ e .ff c - 1 → NoneAfter n On r
-  end-child a q = record {
-    high = omega (arith, own .ff-high);
-    none = λ j l h. child-apart n e f axis c lc hc j (omega arith) h a (λ m. omega arith);
-  }
+      -- the block of the root ends with the last rank
+      root : after < i → e .fa c ≡ 0 → (1 < c) ⊎ (c ≤ 1) → ⊥
+      root m z (inl x) = omega (arith, f .inner c x hc)
+      root m z (inr x) = let y : e .ff c ≡ e .ff 1 = ap (e .ff) (omega arith) in omega (arith, f .root-ff)
 
-  pub end-below : axis ≡ 2 → r ≡ e .ff c - 1 → NoneAfter n On r
-  end-below a q = record {
-    high = omega (arith, own .ff-high);
-    none = λ j l h. below-apart n e f axis c lc hc j (omega arith) h a (λ m. omega arith);
-  }
+      back : after < i → e .fa i ≡ up → (ltb c i && (not (eqb (e .fa c) 0) && eqb (e .fa i) (e .fa c))) ≡ true
+      back m z =
+          and-both (ltb c i) (not (eqb (e .fa c) 0) && eqb (e .fa i) (e .fa c)) (lt-ltb c i (omega (arith, f .each c lc hc .ff-low)))
+          (and-both (not (eqb (e .fa c) 0)) (eqb (e .fa i) (e .fa c)) (ap not (ne-eqb (e .fa c) 0 (λ w. root m w (lt-or-ge 1 c)))) (eq-eqb (e .fa i) (e .fa c) (z ∙ u)))
 
-  pub end-below-same : axis ≡ 3 → r ≡ e .ff c - 1 → NoneAfter n On r
-  end-below-same a q = record {
-    high = omega (arith, own .ff-high);
-    none = λ j l h. below-same-apart n e f axis c lc hc j (omega arith) h a (omega (arith, own .ff-low)) (λ m. omega arith);
-  }
+  pub row-earlier : (up : ℕ) → up ≡ e .fa c → after ≡ up → last ≡ c - 1 → siblingBefore (e .fa) i c ≡ inRow e up after last i
+  unfolding siblingBefore parentOf
+  row-earlier up u p q =
+      same-truth (ltb i c && (not (eqb (e .fa i) 0) && eqb (e .fa c) (e .fa i))) (inRow e up after last i)
+      (λ t. there (ltb-true i c (and-left (ltb i c) (not (eqb (e .fa i) 0) && eqb (e .fa c) (e .fa i)) t))
+      (eqb-true (e .fa c) (e .fa i) (and-right (not (eqb (e .fa i) 0)) (eqb (e .fa c) (e .fa i)) (and-right (ltb i c) (not (eqb (e .fa i) 0) && eqb (e .fa c) (e .fa i)) t))))
+      (λ t. back (between-high after last i (and-left (between after last i) (eqb (e .fa i) up) t)) (eqb-true (e .fa i) up (and-right (between after last i) (eqb (e .fa i) up) t)))
+    where
+      there : i < c → e .fa c ≡ e .fa i → inRow e up after last i ≡ true
+      there m z =
+          and-both (between after last i) (eqb (e .fa i) up) (between-yes after last i (omega (arith, low)) (omega arith)) (eq-eqb (e .fa i) up (sym z ∙ sym u))
 
-  pub end-parent : axis ≡ 4 → r ≡ e .fa c → NoneAfter n On r
-  end-parent a q = record { high = omega (arith, own .fa-high); none = λ j l h. parent-apart n e f axis c lc hc j a (omega arith) }
+      back : i ≤ last → e .fa i ≡ up → (ltb i c && (not (eqb (e .fa i) 0) && eqb (e .fa c) (e .fa i))) ≡ true
+      back m z =
+          let w : 1 ≤ e .fa c = f .inner c (omega arith) hc in
+          and-both (ltb i c) (not (eqb (e .fa i) 0) && eqb (e .fa c) (e .fa i)) (lt-ltb i c (omega arith))
+          (and-both (not (eqb (e .fa i) 0)) (eqb (e .fa c) (e .fa i)) (ap not (ne-eqb (e .fa i) 0 (omega arith))) (eq-eqb (e .fa c) (e .fa i) (sym u ∙ sym z)))
 
-  pub end-preceding : axis ≡ 8 → r ≡ c → NoneAfter n On r
-  end-preceding a q = record { high = omega arith; none = λ j l h. preceding-apart n e f axis c lc hc j (omega arith) h a (omega arith) }
+-- ---- what precedes a context
 
-  pub end-later : axis ≡ 9 → e .ff (e .fa c) ≤ n + 1 → r ≡ e .ff (e .fa c) - 1 → NoneAfter n On r
-  end-later a w q = record { high = omega arith; none = λ j l h. later-late n e f axis c lc hc j (omega arith) h a (omega arith) }
+module _ (n : ℕ) (e : Entries) (f : Facts n e) (c : ℕ) (hc : c ≤ n) (test : ℕ) where
+  before-late : (i : ℕ) → c < i → i ≤ n → chosen 8 n (e .fa) (e .name) test c i ≡ false
+  before-late i m h =
+      chosen-off 8 n (e .fa) (e .name) test c i (axis-preceding 8 n (e .fa) c i refl ∙ whole-no n e f i c (omega arith) h hc (omega (arith, f .each i (omega arith) h .ff-low)))
 
-  pub end-earlier : axis ≡ 10 → r ≡ c → NoneAfter n On r
-  end-earlier a q = record { high = omega arith; none = λ j l h. earlier-late n e f axis c lc hc j (omega arith) h a (omega arith) }
+  module _ (j met : ℕ) (q : met ≡ length (upTo j (chosen 8 n (e .fa) (e .name) test c))) where
+    pub none-before : (p : ℕ) → 1 ≤ p → met < p → c ≤ j → Only n (kept 8 p (chosen 8 n (e .fa) (e .name) test c)) 0
+    none-before p lp m h = only-none (chosen 8 n (e .fa) (e .name) test c) 8 p lp n j c met h q m before-late
 
-  pub end-any : r ≡ n → NoneAfter n On r
-  end-any q = record { high = omega arith; none = λ j l h. absurd (omega arith) }
+    module _ (h : j < c) (past : ℕ) (b : Bool) (w : past ≡ e .ff (j + 1)) (s : b ≡ passes test (e .name (j + 1))) where
+      is : (leb past c && b) ≡ chosen 8 n (e .fa) (e .name) test c (j + 1)
+      unfolding chosen
+      is = ap (λ (x : Bool). leb past c && x) s
+          ∙ ap (λ (x : Bool). x && passes test (e .name (j + 1))) (before-is n e f (j + 1) c past (omega arith) hc w (omega arith) ∙ sym (axis-preceding 8 n (e .fa) c (j + 1) refl))
 
--- entry 0 reads as entry 1
-first : (s : List ℕ) → cell width s 0 2 ≡ cell width s 1 2
-unfolding cell
-first s = refl
+      pub before-count : met + boolByte (leb past c && b) ≡ length (upTo (j + 1) (chosen 8 n (e .fa) (e .name) test c))
+      before-count = count-next (chosen 8 n (e .fa) (e .name) test c) j met (leb past c && b) q is
 
--- the row of a context ends within the entries; that of the root, which has no parent, with the last one
-pub row-high : (s : List ℕ) (n : ℕ) → Facts n (entriesOf width s) → (c : ℕ) → 1 ≤ c → c ≤ n → cell width s (cell width s c 3) 2 ≤ n + 1
-row-high s n f c l h = go (ℕ-discrete (cell width s c 3) 0)
-  where
-    root : cell width s 0 2 ≡ cell width s 1 2
-    root = first s
+      pub before-small : met + boolByte (leb past c && b) ≤ n
+      before-small = omega (arith, before-count, up-length (chosen 8 n (e .fa) (e .name) test c) (j + 1))
 
-    go : Dec (cell width s c 3 ≡ 0) → cell width s (cell width s c 3) 2 ≤ n + 1
-    go (yes z) = omega (arith, ap (λ (i : ℕ). cell width s i 2) z, root, f .root-ff)
-    go (no z) = f .each (cell width s c 3) (omega arith) (omega (arith, f .each c l h .fa-high)) .ff-high
-
--- ---- past the block of an entry
-
-module _ (n : ℕ) (e : Entries) (f : Facts n e) (axis c : ℕ) (lc : 1 ≤ c) (hc : c ≤ n) (j : ℕ) (l : 1 ≤ j) (h : j ≤ n) (r : ℕ) where
-  pub pass-none : r ≡ j → NoneFrom n (onAxis axis n (e .fa) c) j r
-  pass-none q = record { low = omega arith; high = omega arith; none = λ i m g. absurd (omega arith) }
-
-  module _ (q : r ≡ e .ff j - 1) (b : (leb j c && leb c r) ≡ false) where
-    out : (c < j) ⊎ (e .ff j ≤ c)
-    out = ⊎-elim (λ (x : c < j). inl x) (λ (x : r < c). inr (omega arith)) (between-no j c r b)
-
-    pass : ((i : ℕ) → j < i → i ≤ n → i < e .ff j → onAxis axis n (e .fa) c i ≡ false) → NoneFrom n (onAxis axis n (e .fa) c) j r
-    pass w =
-        let x = f .each j l h in
-        record { low = omega (arith, x .ff-low); high = omega (arith, x .ff-high); none = λ i m g. w i m (omega (arith, x .ff-high)) (omega (arith, x .ff-low)) }
-
-    pub pass-child : axis ≡ 1 → NoneFrom n (onAxis axis n (e .fa) c) j r
-    pass-child a = pass (λ i m g w. child-skip n e f axis c lc hc j l out i m g w a)
-
-    pub pass-later : axis ≡ 9 → NoneFrom n (onAxis axis n (e .fa) c) j r
-    pass-later a = pass (λ i m g w. later-skip n e f axis c lc hc j l out i m g w a)
-
-    pub pass-earlier : axis ≡ 10 → NoneFrom n (onAxis axis n (e .fa) c) j r
-    pass-earlier a = pass (λ i m g w. earlier-skip n e f axis c lc hc j l out i m g w a)
+      pub before-here : (p : ℕ) → 1 ≤ p → met < p → met + boolByte (leb past c && b) ≡ p → Only n (kept 8 p (chosen 8 n (e .fa) (e .name) test c)) (j + 1)
+      before-here p lp m g = only-at (chosen 8 n (e .fa) (e .name) test c) 8 p lp n j met (leb past c && b) (omega arith) q m is g

@@ -1,2 +1,2 @@
--- Axes: where the code looks for an element. What the call promises is in `marks/specs/Axis`.
-pub mod Range
+-- Axes: what the search of a row goes by.
+pub mod Row

@@ -9,7 +9,7 @@ ghost use Rattle.trees.specs.Signature.{entriesOf, width};
 ghost use Rattle.xpath.specs.Select.{upTo};
 ghost use Rattle.xpath.specs.Axes.{chosen, kept};
 ghost use Rattle.blocks.specs.Checked.{Ready};
-ghost use Rattle.axes.specs.Range.{Only};
+ghost use Rattle.searching.specs.Only.{Only};
 
 // How many of the elements on the way up from start, which is one of them, pass the name test. From rank 0 there is no way up.
 fn count_above(sig: &[u16], n: u16, test: u16, start: u16) -> u16

@@ -1,7 +1,9 @@
 // Layer 6, axes: the eleven axes with name test and position. Without a position they are taken in one pass; with one, each context is counted by itself.
+mod along;
 mod climb;
-mod reach;
 
+use along::find_before;
+use along::find_row;
 use blocks::first_past;
 use blocks::parent;
 use checking::BAD_ARGUMENT;
@@ -13,113 +15,42 @@ use checking::Written;
 use checking::check_whole;
 use climb::find_above;
 use marks::is_fine;
-use marks::is_named;
 use marks::write_marked;
 use one_pass::axis_without_position;
-use reach::before_axis;
-use reach::end_of_axis;
-use reach::skipped;
+use searching::find_named;
 ghost use mathlib.Core.Path.{_≡_};
-ghost use mathlib.Core.Bool.{true, false, _||_};
+ghost use mathlib.Core.Bool.{true, false};
 ghost use Prim.Native.Nat.{_≤_};
-ghost use lib.ListN.{length};
 ghost use Rattle.trees.specs.Signature.{entriesOf, width, entries};
 ghost use Rattle.xpath.specs.Select.{within};
-ghost use Rattle.xpath.specs.Axes.{parentOf, ancestorOf, ancestorOrSelf, wholeBefore, siblingBefore, onAxis, chosen, kept, inAnswer, answerOf};
+ghost use Rattle.xpath.specs.Axes.{chosen, kept, inAnswer, answerOf};
 ghost use Rattle.blocks.specs.Checked.{Ready};
 ghost use Rattle.checking.specs.Room.{roomFor, Leaves};
 ghost use Rattle.marks.specs.Axis.{axisWithin, AxisPromise};
-ghost use Rattle.marks.specs.Marks.{marked, Marks};
-ghost use Rattle.axes.specs.Range.{Only};
+ghost use Rattle.marks.specs.Marks.{Marks};
+ghost use Rattle.searching.specs.Only.{Only};
 
-// Whether a is an ancestor of j.
-fn is_ancestor(sig: &[u16], n: u16, a: u16, j: u16) -> bool
-    requires { ⌜ Ready (now sig) n × (1 ≤ a) × (a ≤ n) × (1 ≤ j) × (j ≤ n) ⌝ }
-    ensures { λ r. ⌜ «r» ≡ ancestorOf n (entriesOf width (now (sig .entry)) .fa) a j ⌝ }
-{
-    (a < j) & (j < first_past(sig, PreRank(a)))
-}
-
-// Whether a is j or an ancestor of j.
-fn is_ancestor_or_self(sig: &[u16], n: u16, a: u16, j: u16) -> bool
-    requires { ⌜ Ready (now sig) n × (1 ≤ a) × (a ≤ n) × (1 ≤ j) × (j ≤ n) ⌝ }
-    ensures { λ r. ⌜ «r» ≡ ancestorOrSelf n (entriesOf width (now (sig .entry)) .fa) a j ⌝ }
-{
-    (a == j) | is_ancestor(sig, n, a, j)
-}
-
-// Whether j comes after a and all that is below a.
-fn is_wholly_before(sig: &[u16], n: u16, a: u16, j: u16) -> bool
-    requires { ⌜ Ready (now sig) n × (1 ≤ a) × (a ≤ n) × (1 ≤ j) × (j ≤ n) ⌝ }
-    ensures { λ r. ⌜ «r» ≡ wholeBefore n (entriesOf width (now (sig .entry)) .fa) a j ⌝ }
-{
-    let past = first_past(sig, PreRank(a));
-    past <= j
-}
-
-// Whether a is the parent of j.
-fn is_parent(sig: &[u16], a: u16, j: u16) -> bool
-    ensures { λ r. ⌜ «r» ≡ parentOf (entriesOf width (now (sig .entry)) .fa) a j ⌝ }
-{
-    parent(sig, PreRank(j)) == a
-}
-
-// Whether j is a sibling that comes after a.
-fn is_sibling_before(sig: &[u16], a: u16, j: u16) -> bool
-    ensures { λ r. ⌜ «r» ≡ siblingBefore (entriesOf width (now (sig .entry)) .fa) a j ⌝ }
-{
-    let up = parent(sig, PreRank(a));
-    (a < j) & ((up != 0) & is_parent(sig, up, j))
-}
-
-// Whether j is on the axis of the context c.
-fn is_on_axis(sig: &[u16], n: u16, axis: u16, c: u16, j: u16) -> bool
-    requires { ⌜ Ready (now sig) n × (axis ≤ 10) × (1 ≤ c) × (c ≤ n) × (1 ≤ j) × (j ≤ n) ⌝ }
-    ensures { λ r. ⌜ «r» ≡ onAxis axis n (entriesOf width (now (sig .entry)) .fa) c j ⌝ }
-{
-    match axis {
-        0 => c == j,
-        1 => is_parent(sig, c, j),
-        2 => is_ancestor(sig, n, c, j),
-        3 => is_ancestor_or_self(sig, n, c, j),
-        4 => is_parent(sig, j, c),
-        5 => is_ancestor(sig, n, j, c),
-        6 => is_ancestor_or_self(sig, n, j, c),
-        7 => is_wholly_before(sig, n, c, j),
-        8 => is_wholly_before(sig, n, j, c),
-        9 => is_sibling_before(sig, c, j),
-        _ => is_sibling_before(sig, j, c),
-    }
-}
-
-// Whether j is on the axis of the context c and passes the name test.
-fn is_chosen(sig: &[u16], n: u16, axis: u16, test: u16, c: u16, j: u16) -> bool
-    requires { ⌜ Ready (now sig) n × (axis ≤ 10) × (1 ≤ c) × (c ≤ n) × (1 ≤ j) × (j ≤ n) ⌝ }
-    ensures { λ r. ⌜ «r» ≡ chosen axis n (entriesOf width (now (sig .entry)) .fa) (entriesOf width (now (sig .entry)) .name) test c j ⌝ }
-{
-    if is_named(sig, test, PreRank(j)) {
-        return is_on_axis(sig, n, axis, c, j);
-    }
-    false
-}
-
-// The rank of the element that is kept for one context, or 0, on any axis. The search begins where the axis does and ends with it, or at the element.
+// The rank of the element that is kept for one context, or 0, on an axis that is not one of ancestors. Where all ranks of a range are on the axis, only
+// the name is asked for.
 fn find_along(sig: &[u16], n: u16, axis: u16, test: u16, p: u16, c: u16) -> u16
-    requires { ⌜ Ready (now sig) n × (axis ≤ 10) × (1 ≤ p) × (1 ≤ c) × (c ≤ n) ⌝ }
+    requires { ⌜ Ready (now sig) n × (axis ≤ 10) × (1 ≤ p) × (1 ≤ c) × (c ≤ n) × (axis ≡ 5 → ⊥) × (axis ≡ 6 → ⊥) ⌝ }
     ensures { λ r. ⌜ Only n (kept axis p (chosen axis n (entriesOf width (now (sig .entry)) .fa) (entriesOf width (now (sig .entry)) .name) test c)) r ⌝ }
 {
-    let end = end_of_axis(sig, n, axis, c);
-    let mut met: u16 = 0;
-    let mut j = before_axis(sig, n, axis, c);
-    while j < end {
-        j += 1;
-        met += is_chosen(sig, n, axis, test, c, j) as u16;
-        if met == p {
-            return j;
-        }
-        j = skipped(sig, n, axis, c, j);
+    let before = c - 1;
+    let up = parent(sig, PreRank(c));
+    let last = first_past(sig, PreRank(c)) - 1;
+    let row = first_past(sig, PreRank(up)) - 1;
+    match axis {
+        0 => find_named(sig, test, p, before, c),
+        1 => find_row(sig, n, c, test, p, c, last),
+        2 => find_named(sig, test, p, c, last),
+        3 => find_named(sig, test, p, before, last),
+        4 => find_named(sig, test, p, up - (up != 0) as u16, up),
+        7 => find_named(sig, test, p, last, n),
+        8 => find_before(sig, n, test, p, c),
+        9 => find_row(sig, n, up, test, p, last, row),
+        _ => find_row(sig, n, up, test, p, up, before),
     }
-    0
 }
 
 // The rank of the element that is kept for one context, or 0. The ancestors of an element are what is met on the way up from its parent.
@@ -135,16 +66,7 @@ fn find_kept(sig: &[u16], n: u16, axis: u16, test: u16, p: u16, c: u16) -> u16
     }
 }
 
-// Marks what is kept for one context, beside the marks that are there. Rank 0 is no element, so that its mark says nothing.
-fn mark_context(sig: &[u16], n: u16, axis: u16, test: u16, p: u16, c: u16, marks: &mut [u8; 4097])
-    requires { ⌜ Ready (now sig) n × (axis ≤ 10) × (1 ≤ p) × (1 ≤ c) × (c ≤ n) × (length (now marks) ≡ 4097) ⌝ }
-    ensures { λ _. ⌜ Marks n (λ j. marked (now (marks .entry)) j || kept axis p (chosen axis n (entriesOf width (now (sig .entry)) .fa) (entriesOf width (now (sig .entry)) .name) test c) j) (now (marks .exit)) ⌝ }
-{
-    let at = find_kept(sig, n, axis, test, p, c) as usize;
-    marks[at] = 1;
-}
-
-// Marks what is kept for one of the contexts.
+// Marks what is kept for one of the contexts. Rank 0 is no element, so that its mark says nothing.
 fn mark_each(
     sig: &[u16],
     n: u16,
@@ -160,7 +82,8 @@ fn mark_each(
     let mut k = 0;
     while k < contexts.len() {
         let c = contexts[k];
-        mark_context(sig, n, axis, test, p, c, marks);
+        let at = find_kept(sig, n, axis, test, p, c) as usize;
+        marks[at] = 1;
         k += 1;
     }
 }

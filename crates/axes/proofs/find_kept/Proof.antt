@@ -20,7 +20,9 @@ find-above-requires-2 c κs =
     (p .0, p .2, p .4)
 
 find-along-requires : tie.Need-find-along-requires
-find-along-requires c κs = c .before .before .before .pre
+find-along-requires c κs =
+    let p = c .before .before .before .pre in
+    (p .0, p .1, p .2, p .3, p .4, c .match .rest .0 .1, c .match .rest .1)
 
 returns : tie.Need-returns
 returns c =

@@ -2,6 +2,7 @@
 --   count-next, count-start, count-skip   the count at the next rank, at the first, and past ranks that do not pass
 --   count-below  a count that does not come to p
 --   only-hit, only-at   a rank that passes and whose count is p; the rank at which the count comes to p
+--   counts-more  a rank that passes counts one more than those before it
 --   only-none    no rank does
 --   only-marks   the mark of the only rank
 use Prim.Native.Nat.{ℕ, zero, suc, _+_, _≤_, _<_}
@@ -25,7 +26,7 @@ use Rattle.xpath.specs.Axes.{pth, kept}
 use Rattle.xpath.specs.Kept.{kept-other, kept-position}
 use Rattle.marks.specs.Marks.{marked, Marks}
 use Rattle.marks.proofs.Marking.{count-yes, count-no}
-use Rattle.axes.specs.Range.{Only}
+use Rattle.searching.specs.Only.{Only}
 
 -- a count below p that does not come to p stays below it
 pub count-below : (b t : Bool) (met p : ℕ) → b ≡ t → met < p → (met + boolByte b ≡ p → ⊥) → met + boolByte b < p
@@ -52,7 +53,7 @@ module _ (P : ℕ → Bool) where
   count-skip j k met q l h = q ∙ sym (ap length (past j k l h))
 
   -- a rank that passes after j counts one more than j
-  counts-more : (j i : ℕ) → j < i → P i ≡ true → length (upTo j P) < length (upTo i P)
+  pub counts-more : (j i : ℕ) → j < i → P i ≡ true → length (upTo j P) < length (upTo i P)
   counts-more j zero l h = absurd (omega arith)
   counts-more j (suc i) l h =
       let y : P (i + 1) ≡ true = ap P (add-one i) ∙ h in

@@ -1,0 +1,2 @@
+-- Searching: what a search for the p-th element promises.
+pub mod Only
