@@ -2,6 +2,7 @@
 -- maps on the trees' elements, the wrong programs shut out.
 pub mod Exactly
 pub mod Calls
+pub mod Demands
 pub mod ShutOut
 pub mod OnTrees
 pub mod Worked

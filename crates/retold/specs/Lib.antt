@@ -15,3 +15,4 @@ pub mod TreeExact
 pub mod RoundTrips
 pub mod CallsShut
 pub mod Tens
+pub mod BackShut

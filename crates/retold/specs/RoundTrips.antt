@@ -2,6 +2,7 @@
 -- come back as they were. The part handed on is any s with the told length that the room begins with.
 --   tags-there-and-back, tags-back-and-there          tag lists
 --   records-there-and-back, records-back-and-there    signature records
+--   ended-accepted, back-accepted                     a whole check that ends has accepted; so has that of a signature that was written as a tag list
 use Prim.Native.Nat.{ℕ, _+_, _*_, _/_, _≤_}
 use mathlib.Core.Path.{_≡_, refl, ap, _∙_, sym, subst}
 use mathlib.Core.Bool.{Bool, true, false}
@@ -63,7 +64,7 @@ tags-there-and-back k b bytes room after n p s rest e m space w out q l =
     there-and-back k b (y .0) space w out (subst (λ (x : List ℕ). BackPromise k x space w out) same q) l
 
 -- a whole check that ends has accepted
-ended-accepted : (h : Halt) → haltTold h .reason ≡ 1 → verdictTold Verdict.Accepted ≡ haltTold h
+pub ended-accepted : (h : Halt) → haltTold h .reason ≡ 1 → verdictTold Verdict.Accepted ≡ haltTold h
 ended-accepted Halt.answer q = absurd (omega arith)
 ended-accepted Halt.end q = refl
 ended-accepted Halt.budget q = absurd (omega arith)
