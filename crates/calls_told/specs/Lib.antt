@@ -1,5 +1,14 @@
--- What the number that a call on bare numbers returns tells: it is 0 exactly if the call worked.
+-- What calls on bare numbers tell and keep: the number returned is 0 exactly if the call worked; a saved state's numbers are that state, so that
+-- the theorems of turns hold of calls one after the other.
 pub mod Numbered
 pub mod Records
 pub mod Signatures
 pub mod Twigs
+pub mod Back
+pub mod Chains
+pub mod Checks
+pub mod Prepares
+pub mod Walks
+pub mod Looses
+pub mod Cuts
+pub mod Tried
