@@ -3,3 +3,4 @@ pub mod OneResult
 pub mod Xpath
 pub mod Pinned
 pub mod Exactly
+pub mod Tens

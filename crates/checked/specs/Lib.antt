@@ -9,4 +9,5 @@ pub mod Chained
 pub mod Accepted
 pub mod Wholly
 pub mod Public
+pub mod Refusals
 pub mod ShutOut

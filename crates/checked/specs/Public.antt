@@ -5,6 +5,7 @@
 --   stops-before-the-fault     a refused turn stands before the step that the rule refuses, and its budget would have paid for it
 --   cut-anywhere, cut-kept a turn of a + b steps is one of a and then one of b, unless it stopped
 --   count-unique           no two counts join the same two states
+--   Open, Depth, fresh-depth, moves-depth   how many elements are open: with those closed, all but the next entry
 --   refused-early          a check refused at a step has taken fewer than 2×n steps
 --   chain-verdict          and is refused with the same number and entry by the whole check
 use Prim.Native.Nat.{ℕ, zero, suc, _+_, _*_, _≤_, _<_}
@@ -131,14 +132,18 @@ module _ (k : Kind) (s : List ℕ) where
   -- ---- a refused check has taken fewer than 2×n steps
 
   -- d elements are open: top, its fa, and so on up to none
-  abbrev Open : ℕ → ℕ → Type 0
+  abbrev pub Open : ℕ → ℕ → Type 0
   Open zero top = top ≡ 0
   Open (suc d) top = (1 ≤ top) × Open d (entriesOf width s .fa top)
 
-  record Depth (st : CheckState) : Type 0 where
+  -- closed + open + 1 = next
+  pub record Depth (st : CheckState) : Type 0 where
     pub held : ℕ
     pub chain : Open held (st .top .0)
     pub count : st .closed .0 + held + 1 ≡ st .next .0
+
+  pub fresh-depth : Depth fresh
+  fresh-depth = record { held = 0; chain = refl; count = refl }
 
   opened : {st to : CheckState} → Opens (anyName k) (entries s) (entriesOf width s) st to → Depth st → Depth to
   opened o d = rw (o .is) (record { held = suc (d .held); chain = (omega (arith, o .low), rw (o .here) (d .chain)); count = omega (arith, d .count) })
@@ -147,7 +152,7 @@ module _ (k : Kind) (s : List ℕ) where
   closed c zero q e = absurd (c .some-open q)
   closed c (suc d) q e = rw (c .is) (record { held = d; chain = q .1; count = omega arith })
 
-  moves-depth : {j : ℕ} {st to : CheckState} → Depth st → Moves CheckState done step j st to → Depth to
+  pub moves-depth : {j : ℕ} {st to : CheckState} → Depth st → Moves CheckState done step j st to → Depth to
   moves-depth d stay = d
   moves-depth d (move {st = st} {mid = mid} h e m) = moves-depth (next (step-inverse (anyName k) (entries s) (entriesOf width s) st mid e)) m
     where
@@ -186,7 +191,7 @@ module _ (k : Kind) (s : List ℕ) where
       go : (K < 2 * entries s) ⊎ (2 * entries s ≤ K) → K < 2 * entries s
       go (inl l) = l
       go (inr l) =
-          let d = moves-depth (record { held = 0; chain = refl; count = refl }) (w .moves) in
+          let d = moves-depth fresh-depth (w .moves) in
           let a = all-closed (w .state) d (moves-ranges (anyName k) (entries s) (entriesOf width s) (fresh-ranges (entries s)) (w .moves))
           (omega (arith, moves-grow (anyName k) (entries s) (entriesOf width s) (w .moves))) in
           absurd (false≢true (sym (w .going) ∙ a))

@@ -5,3 +5,4 @@ pub mod Prepared
 pub mod Walked
 pub mod Tried
 pub mod Passing
+pub mod Refusals

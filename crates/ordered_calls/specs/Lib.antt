@@ -6,3 +6,4 @@ pub mod Demands
 pub mod ShutOut
 pub mod OnTrees
 pub mod Worked
+pub mod Tens

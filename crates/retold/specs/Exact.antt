@@ -25,7 +25,8 @@ use Rattle.retold.specs.Rooms.{Case, refused, short, written, which, fit
 use Rattle.retold.specs.Taken.{Bytes, Taken}
 use Rattle.retold.specs.Sound.{scan-sound}
 use Rattle.retold.specs.Complete.{scan-complete, numbers-there}
-use Rattle.retold.specs.Ends.{whole-ends, never-ten}
+use Rattle.retold.specs.Ends.{whole-ends}
+use Rattle.retold.specs.Numbers.{never-ten}
 
 -- the verdict before room: it worked, or only the room was too small
 abbrev pub Fine : Written → Type 0

@@ -6,6 +6,7 @@ pub mod Places
 pub mod Sound
 pub mod Complete
 pub mod Ends
+pub mod Numbers
 pub mod Exact
 pub mod There
 pub mod RecordsThere

@@ -26,6 +26,7 @@ use Rattle.retold.specs.Taken.{Bytes, Taken}
 use Rattle.retold.specs.Rooms.{Case, refused, short, written, which, ten-given, refused-writes-nothing}
 use Rattle.retold.specs.Ends.{never-ten}
 use Rattle.retold.specs.Exact.{number, result, fine-taken, taken-fine, tags-signature}
+use Rattle.retold.specs.Numbers.{never-ten}
 
 -- the refusal of a room that is too small
 abbrev pub ten : Refusal

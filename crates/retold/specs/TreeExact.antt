@@ -29,7 +29,7 @@ use Rattle.retold.specs.Rooms.{reading-apart, Case, refused, short, writ
 use Rattle.retold.specs.Taken.{Bytes}
 use Rattle.retold.specs.Sound.{Read, scan-sound}
 use Rattle.retold.specs.Complete.{Scanned, scan-complete, numbers-there}
-use Rattle.retold.specs.Ends.{never-ten}
+use Rattle.retold.specs.Numbers.{never-ten}
 
 -- the tag list of a tree, and what comes after it
 pub record Fronted (k : Kind) (b : List ℕ) (p : ℕ) : Type 0 where
