@@ -1,7 +1,7 @@
 // Searches that go from one rank on: along a row of siblings, and over all that comes before a context.
 use blocks::first_past;
-use checking::PreRank;
 use marks::is_named;
+use terms::PreRank;
 ghost use mathlib.Core.Bool.{_&&_};
 ghost use Prim.Native.Nat.{_≤_};
 ghost use Rattle.trees.specs.Names.{passes};

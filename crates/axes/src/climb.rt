@@ -1,7 +1,7 @@
 // The two axes of ancestors: the way up from an element meets it and its ancestors, the last in document order first.
 use blocks::parent;
-use checking::PreRank;
 use marks::is_named;
+use terms::PreRank;
 ghost use mathlib.Core.Path.{_≡_};
 ghost use Prim.Native.Nat.{_≤_};
 ghost use lib.ListN.{length};

@@ -19,11 +19,11 @@ use Rattle.trees.specs.Nodes.{Node}
 use Rattle.trees.specs.Ranks.{pre}
 use Rattle.trees.specs.NodeRanks.{node-at}
 use Rattle.trees.specs.NodeOrder.{pre-before}
-use Rattle.checking.specs.declared.Kind.{Kind}
-use Rattle.checking.specs.declared.Verdict.{Verdict}
-use Rattle.checking.specs.declared.Refusal.{Refusal}
-use Rattle.checking.specs.declared.Written.{Written}
-use Rattle.checking.specs.Stops.{Answered, worked, refusedAs, answered}
+use Rattle.terms.specs.declared.Kind.{Kind}
+use Rattle.terms.specs.declared.Verdict.{Verdict}
+use Rattle.terms.specs.declared.Refusal.{Refusal}
+use Rattle.terms.specs.declared.Written.{Written}
+use Rattle.terms.specs.Stops.{Answered, worked, refusedAs, answered}
 use Rattle.checking.specs.Whole.{wholeOf, WholePromise}
 use Rattle.checked.specs.Yields.{Words, Yields}
 use Rattle.checked.specs.Accepted.{tree-of}
@@ -34,7 +34,7 @@ use Rattle.xpath.specs.OnNodes.{InOrder, Lists, InUnion}
 use Rattle.xpath.specs.NodeLists.{lists-unique}
 use Rattle.blocks.specs.Checked.{afterCheck}
 use Rattle.blocks.proofs.Calls.{after-accepted, accepted-or-not}
-use Rattle.checking.specs.Room.{Left, refusedLeft}
+use Rattle.terms.specs.Room.{Left, refusedLeft}
 use Rattle.marks.specs.Axis.{argumentsFine, answerIn, axisWithin, axisAnswer, AxisPromise}
 use Rattle.marks.proofs.Calls.{fine-inverse, within-fine, within-bad, room-enough, room-short}
 use Rattle.axes_told.specs.Xpath.{axis-is-xpath}

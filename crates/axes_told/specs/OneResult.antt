@@ -14,11 +14,11 @@ use lib.Seq.{length-take-le}
 use lib.Dec.{leb, eqb}
 use Rattle.turns.specs.Pick.{pick}
 use Rattle.trees.specs.Signature.{entries}
-use Rattle.checking.specs.declared.Kind.{Kind}
-use Rattle.checking.specs.declared.Verdict.{Verdict}
-use Rattle.checking.specs.declared.Refusal.{Refusal}
-use Rattle.checking.specs.declared.Written.{Written}
-use Rattle.checking.specs.Stops.{Answered}
+use Rattle.terms.specs.declared.Kind.{Kind}
+use Rattle.terms.specs.declared.Verdict.{Verdict}
+use Rattle.terms.specs.declared.Refusal.{Refusal}
+use Rattle.terms.specs.declared.Written.{Written}
+use Rattle.terms.specs.Stops.{Answered}
 use Rattle.checking.specs.Whole.{wholeOf, WholePromise}
 use Rattle.checked.specs.Apart.{refusal-same, answered-apart}
 use Rattle.blocks.specs.declared.LevelAnswer.{LevelAnswer}
@@ -26,7 +26,7 @@ use Rattle.blocks.specs.declared.PlaceAnswer.{PlaceAnswer}
 use Rattle.blocks.specs.Checked.{afterCheck, isRank}
 use Rattle.blocks.specs.Level.{Leveled, levelTold, LevelPromise}
 use Rattle.blocks.specs.Block.{Placed, placeTold, placeRefused, placeWithin, placeAnswer, PlacePromise, partAt, BlockPromise}
-use Rattle.checking.specs.Room.{roomFor, refusedLeft, writtenLeft}
+use Rattle.terms.specs.Room.{roomFor, refusedLeft, writtenLeft}
 use Rattle.marks.specs.Axis.{axisAnswer, axisWithin, argumentsFine, answerIn, AxisPromise}
 use Rattle.blocks.proofs.Calls.{rank-inverse, ready-of, after-accepted, accepted-or-not, place-yes, place-no, place-inside}
 

@@ -15,9 +15,9 @@ use Rattle.trees.specs.Signature.{entriesOf, width, entries}
 use Rattle.trees.specs.NodeRanks.{pre-low, pre-high}
 use Rattle.trees.specs.NodeAncestors.{ancestor-below, below-ancestor, ancestors-sound, ancestors-complete}
 use Rattle.trees.specs.Meanings.{ff-is}
-use Rattle.checking.specs.declared.Kind.{Kind}
-use Rattle.checking.specs.declared.Verdict.{Verdict}
-use Rattle.checking.specs.declared.Refusal.{Refusal}
+use Rattle.terms.specs.declared.Kind.{Kind}
+use Rattle.terms.specs.declared.Verdict.{Verdict}
+use Rattle.terms.specs.declared.Refusal.{Refusal}
 use Rattle.checked.specs.Yields.{Words, Yields}
 use Rattle.checked.specs.Accepted.{Tree-of, tree-of}
 use Rattle.xpath.specs.OnNodes.{InOrder, Lists}

@@ -16,12 +16,13 @@ use Rattle.turns.specs.Pick.{pick}
 use Rattle.turns.specs.Turn.{run}
 use Rattle.trees.specs.Names.{passes}
 use Rattle.trees.specs.Signature.{cell, entries}
-use Rattle.checking.specs.declared.Kind.{Kind}
-use Rattle.checking.specs.declared.Written.{Written}
+use Rattle.terms.specs.declared.Kind.{Kind}
+use Rattle.terms.specs.declared.Written.{Written}
 use Rattle.checking.specs.Rule.{stepOf, closeOf, accepted, nameless, secondRoot, inRange}
-use Rattle.checking.specs.Room.{refusedLeft, writtenLeft, roomFor}
-use Rattle.checking.specs.Stops.{answered}
-use Rattle.checking.specs.Turn.{turnWithin, lengthFault}
+use Rattle.terms.specs.Room.{refusedLeft, writtenLeft, roomFor}
+use Rattle.terms.specs.Stops.{answered}
+use Rattle.checking.specs.Turn.{turnWithin}
+use Rattle.terms.specs.Length.{lengthFault}
 use Rattle.checking.specs.Whole.{wholeOf}
 use Rattle.checked.specs.Menus.{single}
 use Rattle.checked.specs.Refusals.{whole-not-ten}

@@ -18,10 +18,10 @@ use Rattle.trees.specs.NodeRanks.{pre-low, pre-high, pre-injective}
 use Rattle.trees.specs.NodeOrder.{before-pre}
 use Rattle.trees.specs.NodeAncestors.{ancestor-below, below-ancestor}
 use Rattle.trees.specs.Meanings.{below-ff, ff-below}
-use Rattle.checking.specs.declared.Kind.{Kind}
-use Rattle.checking.specs.declared.Verdict.{Verdict}
-use Rattle.checking.specs.declared.Written.{Written}
-use Rattle.checking.specs.Stops.{worked, refusedAs, answered}
+use Rattle.terms.specs.declared.Kind.{Kind}
+use Rattle.terms.specs.declared.Verdict.{Verdict}
+use Rattle.terms.specs.declared.Written.{Written}
+use Rattle.terms.specs.Stops.{worked, refusedAs, answered}
 use Rattle.checked.specs.Yields.{Words, Yields}
 use Rattle.checked.specs.Accepted.{Tree-of, tree-of}
 use Rattle.checked.specs.Wholly.{yields-accepted}
@@ -35,7 +35,7 @@ use Rattle.blocks.specs.declared.LevelAnswer.{LevelAnswer}
 use Rattle.blocks.specs.declared.PlaceAnswer.{PlaceAnswer}
 use Rattle.blocks.specs.Level.{levelWorked, levelRefused, levelWithin, LevelPromise}
 use Rattle.blocks.specs.Block.{placeRefused, placeWithin, blockPlace, PlacePromise}
-use Rattle.checking.specs.Room.{Left, refusedLeft, roomFor}
+use Rattle.terms.specs.Room.{Left, refusedLeft, roomFor}
 use Rattle.marks.specs.Axis.{axisWithin, axisAnswer, answerIn, AxisPromise}
 use Rattle.blocks.specs.Checked.{afterCheck}
 use Rattle.axes_told.specs.OneResult.{level-apart, place-apart}

@@ -17,14 +17,14 @@ use Rattle.turns.specs.Pick.{pick}
 use Rattle.trees.specs.Tree.{whole}
 use Rattle.trees.specs.Signature.{entriesOf, width, entries}
 use Rattle.trees.specs.Listed.{signature-length}
-use Rattle.checking.specs.declared.Kind.{Kind}
-use Rattle.checking.specs.declared.Verdict.{Verdict}
-use Rattle.checking.specs.declared.Refusal.{Refusal}
+use Rattle.terms.specs.declared.Kind.{Kind}
+use Rattle.terms.specs.declared.Verdict.{Verdict}
+use Rattle.terms.specs.declared.Refusal.{Refusal}
 use Rattle.turns.specs.Turn.{Halt}
-use Rattle.checking.specs.Kinds.{most}
+use Rattle.terms.specs.Kinds.{most}
 use Rattle.checking.specs.Rule.{fresh}
 use Rattle.checking.specs.Turn.{turnOf}
-use Rattle.checking.specs.Stops.{Told, verdictTold, haltTold}
+use Rattle.terms.specs.Stops.{Told, verdictTold, haltTold}
 use Rattle.checking.specs.Whole.{wholeOf, WholePromise}
 use Rattle.checked.specs.Wholly.{accepted-tree}
 use Rattle.xpath.specs.Axes.{levelOf}

@@ -11,7 +11,7 @@ use lib.Dec.{leb, eqb}
 use Rattle.turns.specs.Pick.{pick}
 use Rattle.trees.specs.Signature.{entriesOf, width}
 use Rattle.trees.specs.Facts.{Facts}
-use Rattle.checking.specs.declared.Kind.{Kind}
+use Rattle.terms.specs.declared.Kind.{Kind}
 use Rattle.checking.specs.Whole.{wholeOf}
 
 -- "Axis, level, part [..] calls check the whole signature first", and 3 to 6 name the entry

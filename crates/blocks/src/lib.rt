@@ -1,11 +1,11 @@
 // Layer 4, blocks: the level of an entry, and its block.
-use checking::BAD_ARGUMENT;
-use checking::Kind;
-use checking::PreRank;
-use checking::Refusal;
-use checking::Verdict;
 use checking::check_whole;
 use entries::entry_number;
+use terms::BAD_ARGUMENT;
+use terms::Kind;
+use terms::PreRank;
+use terms::Refusal;
+use terms::Verdict;
 ghost use mathlib.Core.Path.{_≡_};
 ghost use Prim.Native.Nat.{_≤_};
 ghost use Rattle.trees.specs.Signature.{entriesOf, width, entries};

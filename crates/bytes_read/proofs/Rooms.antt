@@ -9,9 +9,9 @@ use native.Mathlib.Nat.{zero-add}
 use lib.ListN.{length, drop, set, length-append}
 use lib.Seq.{sets, sets-eq, length-sets}
 use borrow.Author.Tests.{eq-eqb, ne-eqb, le-leb, lt-leb}
-use Rattle.checking.specs.Stops.{Answered, answered, worked, refusedAs}
-use Rattle.checking.specs.declared.Written.{Written}
-use Rattle.checking.specs.Room.{Left, leftBy, roomFor, frontWith, Leaves}
+use Rattle.terms.specs.Stops.{Answered, answered, worked, refusedAs}
+use Rattle.terms.specs.declared.Written.{Written}
+use Rattle.terms.specs.Room.{Left, leftBy, roomFor, frontWith, Leaves}
 
 pub front-sets : (result room : List ℕ) → length result ≤ length room → sets room 0 result ≡ frontWith result room
 front-sets result room h =

@@ -3,9 +3,9 @@ ghost use mathlib.Core.Path.{_≡_};
 ghost use Prim.Native.Nat.{_+_};
 ghost use lib.ListN.{getD};
 ghost use Rattle.bytes_read.specs.Bytes.{numberAt, marked};
-use checking::PreRank;
-use checking::Refusal;
-use checking::Written;
+use terms::PreRank;
+use terms::Refusal;
+use terms::Written;
 
 // The byte at a place, 0 outside.
 pub fn byte_at(bytes: &[u8], at: usize) -> u8

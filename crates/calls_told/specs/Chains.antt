@@ -13,8 +13,8 @@ use lib.ListN.{getD}
 use Rattle.turns.specs.Turn.{Next, Steps, none, then}
 use Rattle.turns.specs.Chains.{Chain, one, more}
 use Rattle.walks.specs.Chained.{told, AllButLast}
-use Rattle.checking.specs.declared.Stop.{Stop}
-use Rattle.checking.specs.Stops as stops
+use Rattle.terms.specs.declared.Stop.{Stop}
+use Rattle.terms.specs.Stops as stops
 
 -- what a turn on bare numbers returns, the state's numbers that it leaves, and out
 pub record Called : Type 0 where

@@ -17,16 +17,17 @@ use lib.ListN.{length, getD}
 use Rattle.turns.specs.Turn.{Turned, run, Steps}
 use Rattle.turns.specs.Chains.{Chain, one, more}
 use Rattle.trees.specs.Signature.{cell, entriesOf, width, entries}
-use Rattle.checking.specs.declared.Kind.{Kind}
+use Rattle.terms.specs.declared.Kind.{Kind}
 use Rattle.checking.specs.declared.CheckState.{CheckState}
 use Rattle.checking.specs.declared.CheckTurn.{CheckTurn}
-use Rattle.checking.specs.declared.Stop.{Stop}
-use Rattle.checking.specs.declared.Verdict.{Verdict}
-use Rattle.checking.specs.Kinds.{anyName}
+use Rattle.terms.specs.declared.Stop.{Stop}
+use Rattle.terms.specs.declared.Verdict.{Verdict}
+use Rattle.terms.specs.Kinds.{anyName}
 use Rattle.checking.specs.Rule.{fresh, stepOf, closeOf, accepted, nameless, secondRoot, inRange}
-use Rattle.checking.specs.Turn.{TurnPromise, turnOf, turnWithin, lengthFault}
+use Rattle.checking.specs.Turn.{TurnPromise, turnOf, turnWithin}
+use Rattle.terms.specs.Length.{lengthFault}
 use Rattle.checking.specs.Whole.{WholePromise}
-use Rattle.checking.specs.Stops.{Told, told, haltTold}
+use Rattle.terms.specs.Stops.{Told, told, haltTold}
 use Rattle.checked.specs.Yields.{Words, Yields, Ended, Turns}
 use Rattle.checked.specs.Apart.{told-stop}
 use Rattle.checked.specs.Public.{step-as-written}

@@ -12,8 +12,8 @@ use native.Mathlib.Decide.{decLe}
 use lib.ListN.{getD}
 use Rattle.turns.specs.Turn.{Turned}
 use Rattle.checking.specs.declared.CheckState.{CheckState}
-use Rattle.checking.specs.declared.Stop.{Stop}
-use Rattle.checking.specs.Stops.{Told, told, haltTold}
+use Rattle.terms.specs.declared.Stop.{Stop}
+use Rattle.terms.specs.Stops.{Told, told, haltTold}
 use Rattle.checking.specs.Turn.{turnOf}
 use Rattle.checked.specs.Apart as apart
 use Rattle.checked.specs.Apart.{stopOf, told-stop}

@@ -16,8 +16,8 @@ use lib.ListN.{getD}
 use Rattle.trees.specs.Signature.{entries}
 use Rattle.walks.specs.Every.{Pairs}
 use Rattle.walks.specs.Chained.{told, AllButLast}
-use Rattle.checking.specs.declared.Stop.{Stop}
-use Rattle.checking.specs.Stops as stops
+use Rattle.terms.specs.declared.Stop.{Stop}
+use Rattle.terms.specs.Stops as stops
 use Rattle.checked.specs.Yields.{Words}
 use Rattle.walking.specs.declared.WalkTurn.{WalkTurn}
 use Rattle.walking.specs.Walking.{fresh}

@@ -21,13 +21,14 @@ use Rattle.turns.specs.Pick.{pick}
 use Rattle.turns.specs.Turn.{Halt, Next, moved, answered, refused, Turned, turn, Outcome, ended, spent, told, faulty}
 use Rattle.turns.specs.Laws.{turn-outcome}
 use Rattle.trees.specs.Signature.{Entries, entriesOf, width, entries}
-use Rattle.checking.specs.declared.Kind.{Kind}
+use Rattle.terms.specs.declared.Kind.{Kind}
 use Rattle.checking.specs.declared.CheckState.{CheckState}
-use Rattle.checking.specs.Kinds.{anyName, most}
+use Rattle.terms.specs.Kinds.{anyName, most}
 use Rattle.checking.specs.Rule.{fresh, openOf, closedOf, nameless, secondRoot, stepOf, closeOf, accepted, inRange}
-use Rattle.checking.specs.Turn.{runOf, lengthFault, refusedAt, turnWithin, turnOf}
-use Rattle.checking.specs.Stops.{Told, haltTold, Answered}
-use Rattle.checking.specs.Room.{Left, writtenLeft, refusedLeft, roomFor, leftBy}
+use Rattle.checking.specs.Turn.{runOf, refusedAt, turnWithin, turnOf}
+use Rattle.terms.specs.Length.{lengthFault}
+use Rattle.terms.specs.Stops.{Told, haltTold, Answered}
+use Rattle.terms.specs.Room.{Left, writtenLeft, refusedLeft, roomFor, leftBy}
 use Rattle.checking.specs.Whole.{wholeOf}
 use Rattle.checking.proofs.Runs.{whole-stops}
 use Rattle.twig_turns.specs.Given.{lengthTold, givenOf, refusedFor, ready, begun, tableWidth}

@@ -11,10 +11,11 @@ use lib.ListN.{replicate}
 use Rattle.turns.specs.Turn.{run}
 use Rattle.trees.specs.Signature.{cell}
 use Rattle.trees.specs.Tags.{tagsOf, opened, closed, rowsOf, oneTree, treeOf}
-use Rattle.checking.specs.declared.Kind.{Kind}
+use Rattle.terms.specs.declared.Kind.{Kind}
 use Rattle.checking.specs.Rule.{stepOf, closeOf, accepted, nameless, secondRoot, inRange}
-use Rattle.checking.specs.Turn.{turnWithin, lengthFault}
-use Rattle.checking.specs.Room.{Left, roomFor, leftBy, refusedLeft}
+use Rattle.checking.specs.Turn.{turnWithin}
+use Rattle.terms.specs.Length.{lengthFault}
+use Rattle.terms.specs.Room.{Left, roomFor, leftBy, refusedLeft}
 use Rattle.checking.specs.Whole.{wholeOf}
 use Rattle.checked.specs.Menus.{single, singleRecord, singleTags}
 use Rattle.bytes_read.specs.Bytes.{marked}

@@ -15,10 +15,10 @@ use lib.Dec.{eqb, leb}
 use lib.ListN.{length, getD}
 use Rattle.turns.specs.Pick.{pick}
 use Rattle.trees.specs.Signature.{entriesOf, width, entries}
-use Rattle.checking.specs.declared.Kind.{Kind}
-use Rattle.checking.specs.Kinds.{anyName, most}
-use Rattle.checking.specs.Room.{Left, writtenLeft, refusedLeft, roomFor, leftBy}
-use Rattle.checking.specs.Stops.{haltTold}
+use Rattle.terms.specs.declared.Kind.{Kind}
+use Rattle.terms.specs.Kinds.{anyName, most}
+use Rattle.terms.specs.Room.{Left, writtenLeft, refusedLeft, roomFor, leftBy}
+use Rattle.terms.specs.Stops.{haltTold}
 use Rattle.checking.specs.Turn.{turnOf}
 use Rattle.checking.specs.Whole.{wholeOf}
 use Rattle.checked.specs.Refusals as checked
@@ -34,7 +34,8 @@ use Rattle.blocks.specs.Level.{Leveled, levelWorked, levelRefused, levelWithin}
 use Rattle.blocks.specs.Block.{Placed, blockPlace, placeRefused, placeWithin}
 use Rattle.marks.specs.Axis.{argumentsFine, answerIn, axisWithin}
 use Rattle.ordering.specs.Next.{nextAnswer}
-use Rattle.ordered.specs.Promise.{tupleFits, orderedOf}
+use Rattle.ordered_given.specs.Judged.{tupleFits}
+use Rattle.ordered.specs.Promise.{orderedOf}
 use Rattle.twig_turns.specs.Given.{tableWidth}
 use Rattle.preparing.specs.PrepTurn.{startFault, prepTurnOf, underway}
 use Rattle.walking.specs.WalkTurn.{walkTurnOf}

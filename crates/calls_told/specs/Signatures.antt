@@ -14,12 +14,13 @@ use Rattle.turns.specs.Pick.{pick}
 use Rattle.turns.specs.Turn.{Turned, run}
 use Rattle.trees.specs.Signature.{cell, entriesOf, width, entries}
 use Rattle.trees.specs.Names.{passes}
-use Rattle.checking.specs.declared.Kind.{Kind}
+use Rattle.terms.specs.declared.Kind.{Kind}
 use Rattle.checking.specs.declared.CheckState.{CheckState}
 use Rattle.checking.specs.Rule.{stepOf, closeOf, accepted, nameless, secondRoot, inRange}
-use Rattle.checking.specs.Turn.{turnOf, turnWithin, lengthFault}
-use Rattle.checking.specs.Stops.{haltTold}
-use Rattle.checking.specs.Room.{Left, refusedLeft, roomFor}
+use Rattle.checking.specs.Turn.{turnOf, turnWithin}
+use Rattle.terms.specs.Length.{lengthFault}
+use Rattle.terms.specs.Stops.{haltTold}
+use Rattle.terms.specs.Room.{Left, refusedLeft, roomFor}
 use Rattle.checking.specs.Whole.{wholeOf}
 use Rattle.checked.specs.Menus.{ten, wrongPost}
 use Rattle.xpath.specs.Select.{upTo, some, rises, within}

@@ -13,9 +13,9 @@ use lib.ListN.{length, getD}
 use borrow.Author.Tests.{eqb-true, eqb-false, leb-true, leb-false}
 use Rattle.turns.specs.Pick.{pick}
 use Rattle.trees.specs.Signature.{entries}
-use Rattle.checking.specs.declared.Kind.{Kind}
-use Rattle.checking.specs.Kinds.{anyName, most}
-use Rattle.checking.specs.Room.{writtenLeft, refusedLeft, roomFor, leftBy}
+use Rattle.terms.specs.declared.Kind.{Kind}
+use Rattle.terms.specs.Kinds.{anyName, most}
+use Rattle.terms.specs.Room.{writtenLeft, refusedLeft, roomFor, leftBy}
 use Rattle.checking.specs.Whole.{wholeOf}
 use Rattle.checked.specs.Refusals.{one-not, whole-not-ten}
 use Rattle.bytes_read.specs.Scans.{haltNumber}

@@ -24,9 +24,10 @@ use Rattle.trees.specs.Signature.{cell, entriesOf, width}
 use Rattle.trees.specs.Names.{passes}
 use Rattle.walks.specs.Chained.{told}
 use Rattle.checking.specs.Rule as check
-use Rattle.checking.specs.declared.Kind.{Kind}
+use Rattle.terms.specs.declared.Kind.{Kind}
 use Rattle.checking.specs.declared.CheckState.{CheckState}
-use Rattle.checking.specs.Turn.{turnOf, turnWithin, lengthFault}
+use Rattle.checking.specs.Turn.{turnOf, turnWithin}
+use Rattle.terms.specs.Length.{lengthFault}
 use Rattle.checked.specs.ShutOut.{small, small-words}
 use Rattle.checked.specs.Menus.{ten, five, pair}
 use Rattle.preparing.specs.Masks.{every, hasBit, mask, put}

@@ -13,9 +13,10 @@ use Rattle.turns.specs.Turn.{run}
 use Rattle.trees.specs.Names.{passes}
 use Rattle.trees.specs.Signature.{cell, entriesOf, width, entries}
 use Rattle.trees.specs.Tags.{tagsOf, opened, closed, rowsOf, oneTree, treeOf}
-use Rattle.checking.specs.declared.Kind.{Kind}
+use Rattle.terms.specs.declared.Kind.{Kind}
 use Rattle.checking.specs.Rule as check
-use Rattle.checking.specs.Turn.{turnWithin, lengthFault}
+use Rattle.checking.specs.Turn.{turnWithin}
+use Rattle.terms.specs.Length.{lengthFault}
 use Rattle.checking.specs.Whole.{wholeOf}
 use Rattle.checked.specs.Menus.{ten, five, single, twoRoots, wrongPost, wrongFf, tarts, fork, pair}
 use Rattle.checked.specs.Refusals.{one-not}
@@ -28,7 +29,7 @@ use Rattle.tag_scan.specs.TagLists.{tagBytes, closedWith, namelessAt, misnested
 use Rattle.tag_writing.specs.TagsBack.{rowFrom, backBytes}
 use Rattle.marks.specs.Axis.{argumentsFine, answerIn}
 use Rattle.ordering.specs.Next.{ranks, tuples, placedTest, laterTest, answerTest, smallerTest, firstOf, nextAnswer}
-use Rattle.ordered.specs.Promise.{allUpTo, tupleFits}
+use Rattle.ordered_given.specs.Judged.{allUpTo, tupleFits}
 use Rattle.twig_turns.specs.Given.{givenOf}
 use Rattle.preparing.specs.Masks.{every}
 use Rattle.walk_ranges.specs.Ranges.{image, imageFits, phaseFits}

@@ -17,13 +17,14 @@ use Rattle.turns.specs.Pick.{pick}
 use Rattle.turns.specs.Turn.{Turned, moved, answered, refused, run}
 use Rattle.trees.specs.Signature.{cell, Entries, entriesOf, width, entries}
 use Rattle.trees.specs.Names.{passes}
-use Rattle.checking.specs.declared.Kind.{Kind}
-use Rattle.checking.specs.Kinds.{most}
+use Rattle.terms.specs.declared.Kind.{Kind}
+use Rattle.terms.specs.Kinds.{most}
 use Rattle.checking.specs.Rule as check
 use Rattle.checking.specs.Rule.{closeOf, accepted, nameless, secondRoot, inRange}
-use Rattle.checking.specs.Turn.{turnWithin, lengthFault}
-use Rattle.checking.specs.Stops.{haltTold, Told}
-use Rattle.checking.specs.Room.{Left, refusedLeft, roomFor}
+use Rattle.checking.specs.Turn.{turnWithin}
+use Rattle.terms.specs.Length.{lengthFault}
+use Rattle.terms.specs.Stops.{haltTold, Told}
+use Rattle.terms.specs.Room.{Left, refusedLeft, roomFor}
 use Rattle.checking.specs.Whole.{wholeOf}
 use Rattle.checked.specs.Menus.{five, tarts, fork, pair}
 use Rattle.ordering.specs.Next.{ranks, tuples, placedTest, laterTest, answerTest, smallerTest, firstOf, nextAnswer}

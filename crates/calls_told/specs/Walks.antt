@@ -21,9 +21,9 @@ use Rattle.turns.specs.Turn.{Next, moved, answered, refused, Turned, Steps, non
 use Rattle.turns.specs.Chains.{Chain}
 use Rattle.trees.specs.Signature.{Entries, entries}
 use Rattle.walks.specs.Chained.{told, AllButLast}
-use Rattle.checking.specs.declared.Stop.{Stop}
-use Rattle.checking.specs.Stops as stops
-use Rattle.checking.specs.Stops.{Told}
+use Rattle.terms.specs.declared.Stop.{Stop}
+use Rattle.terms.specs.Stops as stops
+use Rattle.terms.specs.Stops.{Told}
 use Rattle.checking.specs.Turn.{refusedAt}
 use Rattle.checked.specs.Apart.{stopOf, told-stop}
 use Rattle.preparing.specs.Masks.{hasBit}

@@ -1,9 +1,9 @@
 // Checks a sample menu of ten elements in turns of seven steps, and tells a person what each turn came to.
 use checking::CheckState;
-use checking::Kind;
-use checking::Refusal;
-use checking::Stop;
 use libc::STDOUT_FILENO;
+use terms::Kind;
+use terms::Refusal;
+use terms::Stop;
 
 // The sample menu: name, post, ff and fa of each element.
 const TEN: [u16; 40] = [

@@ -19,16 +19,16 @@ use Rattle.trees.specs.Rows.{Holds}
 use Rattle.trees.specs.Listed.{signature-length, listed-whole, whole-listed}
 use Rattle.trees.specs.Facts.{Facts}
 use Rattle.trees.specs.FactsOf.{facts-of}
-use Rattle.checking.specs.declared.Kind.{Kind}
+use Rattle.terms.specs.declared.Kind.{Kind}
 use Rattle.checking.specs.declared.CheckState.{CheckState}
 use Rattle.checking.specs.declared.CheckTurn.{CheckTurn}
-use Rattle.checking.specs.declared.Stop.{Stop}
-use Rattle.checking.specs.Kinds.{anyName, most}
+use Rattle.terms.specs.declared.Stop.{Stop}
+use Rattle.terms.specs.Kinds.{anyName, most}
 use Rattle.checking.specs.Rule.{at, fresh, stepOf, accepted}
-use Rattle.checking.specs.Stops.{told, haltTold}
-use Rattle.checking.specs.Turn.{lengthFault}
+use Rattle.terms.specs.Stops.{told, haltTold}
+use Rattle.terms.specs.Length.{lengthFault}
 use Rattle.checking.proofs.Cases.{accepted-yes, fresh-ranges}
-use Rattle.checking.proofs.Runs.{Sized, length-sized, length-fine}
+use Rattle.terms.proofs.Lengths.{Sized, length-sized, length-fine}
 use Rattle.checked.specs.Walked.{Run, Fine, walk-tree}
 use Rattle.checked.specs.Parsed.{accepted-read}
 use Rattle.checked.specs.Yields.{Words, Yields, Turns}

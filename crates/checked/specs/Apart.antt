@@ -7,13 +7,13 @@ use Prim.Native.Nat.{ℕ}
 use mathlib.Core.Path.{_≡_, refl, ap, _∙_, sym}
 use native.Mathlib.Omega.{arith}
 use Rattle.turns.specs.Turn.{Halt, Turned}
-use Rattle.checking.specs.declared.Stop.{Stop}
-use Rattle.checking.specs.declared.Verdict.{Verdict}
-use Rattle.checking.specs.declared.Refusal.{Refusal}
+use Rattle.terms.specs.declared.Stop.{Stop}
+use Rattle.terms.specs.declared.Verdict.{Verdict}
+use Rattle.terms.specs.declared.Refusal.{Refusal}
 use Rattle.checking.specs.declared.CheckState.{CheckState}
 use Rattle.checking.specs.declared.CheckTurn.{CheckTurn}
-use Rattle.checking.specs.declared.Written.{Written}
-use Rattle.checking.specs.Stops.{Told, told, haltTold, verdictTold, Answered, answered}
+use Rattle.terms.specs.declared.Written.{Written}
+use Rattle.terms.specs.Stops.{Told, told, haltTold, verdictTold, Answered, answered}
 use Rattle.checking.specs.Turn.{Handed}
 
 -- which of the four reasons

@@ -16,13 +16,14 @@ use Rattle.turns.specs.Counts.{counted}
 use Rattle.turns.specs.Chains as Chains
 use Rattle.turns.specs.Chains.{one, more}
 use Rattle.trees.specs.Signature.{entriesOf, width, entries}
-use Rattle.checking.specs.declared.Kind.{Kind}
+use Rattle.terms.specs.declared.Kind.{Kind}
 use Rattle.checking.specs.declared.CheckState.{CheckState}
 use Rattle.checking.specs.declared.CheckTurn.{CheckTurn}
-use Rattle.checking.specs.Kinds.{anyName, most}
+use Rattle.terms.specs.Kinds.{anyName, most}
 use Rattle.checking.specs.Rule.{stepOf, accepted, Ranges, inRange}
-use Rattle.checking.specs.Stops.{told, haltTold}
-use Rattle.checking.specs.Turn.{Handed, TurnPromise, turnOf, lengthFault, refusedAt}
+use Rattle.terms.specs.Stops.{told, haltTold}
+use Rattle.checking.specs.Turn.{Handed, TurnPromise, turnOf, refusedAt}
+use Rattle.terms.specs.Length.{lengthFault}
 use Rattle.checking.proofs.Cases.{range-yes, range-inverse}
 use Rattle.checking.proofs.Inverse.{step-ranges, step-silent}
 use Rattle.checking.proofs.Runs.{turn-run, turn-length, turn-range}
@@ -111,6 +112,6 @@ module _ (k : Kind) (s : List ℕ) where
   pub chain-length : (Fits → ⊥) → {st : CheckState} {B K : ℕ} {r : CheckTurn} → Turns k s st B K r → told (r .stop) ≡ haltTold Halt.end → ⊥
   chain-length n (one {st = st} {b = b} {r = r} p) e =
       let q = p .stop ∙ ap (λ (t : Turned CheckState). haltTold (t .halt)) (turn-length (anyName k) (most k) s b st n) in
-      let z : _≡_ {A = ℕ} 1 3 = ap (λ (t : Rattle.checking.specs.Stops.Told). t .reason) (sym e ∙ q) in
+      let z : _≡_ {A = ℕ} 1 3 = ap (λ (t : Rattle.terms.specs.Stops.Told). t .reason) (sym e ∙ q) in
       omega arith
   chain-length n (more p c) e = chain-length n c e

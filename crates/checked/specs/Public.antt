@@ -21,19 +21,20 @@ use Rattle.turns.specs.Counts as Counts
 use Rattle.turns.specs.Laws as Laws
 use Rattle.turns.specs.Chains as Chains
 use Rattle.trees.specs.Signature.{entriesOf, width, entries}
-use Rattle.checking.specs.declared.Kind.{Kind}
+use Rattle.terms.specs.declared.Kind.{Kind}
 use Rattle.checking.specs.declared.CheckState.{CheckState}
 use Rattle.checking.specs.declared.CheckTurn.{CheckTurn}
-use Rattle.checking.specs.declared.Stop.{Stop}
-use Rattle.checking.specs.declared.Refusal.{Refusal}
-use Rattle.checking.specs.declared.Verdict.{Verdict}
-use Rattle.checking.specs.Kinds.{anyName, most}
+use Rattle.terms.specs.declared.Stop.{Stop}
+use Rattle.terms.specs.declared.Refusal.{Refusal}
+use Rattle.terms.specs.declared.Verdict.{Verdict}
+use Rattle.terms.specs.Kinds.{anyName, most}
 use Rattle.checking.specs.Rule.{fresh, stepOf, accepted, Ranges}
-use Rattle.checking.specs.Stops.{Told, told, haltTold}
+use Rattle.terms.specs.Stops.{Told, told, haltTold}
 use Rattle.checking.specs.Turn.{Handed, TurnPromise, turnOf, refusedAt}
 use Rattle.checking.specs.Whole.{WholePromise}
 use Rattle.checking.proofs.Inverse.{Opens, Closes, step-inverse, step-grows, step-silent}
-use Rattle.checking.proofs.Runs.{moves-grow, moves-ranges, length-sized}
+use Rattle.checking.proofs.Runs.{moves-grow, moves-ranges}
+use Rattle.terms.proofs.Lengths.{length-sized}
 use Rattle.checking.proofs.Cases.{accepted-yes, fresh-ranges}
 use Rattle.checked.specs.Yields.{Turns}
 use Rattle.checked.specs.Apart.{handed-unique, verdict-apart, halt-told, told-halt}

@@ -23,15 +23,16 @@ use Rattle.turns.specs.Pick.{pick}
 use Rattle.turns.specs.Turn.{Next, moved, answered, refused, Turned, turn, Moves, Outcome, ended, spent, told, faulty}
 use Rattle.turns.specs.Laws.{turn-outcome}
 use Rattle.trees.specs.Signature.{Entries, entriesOf, width, entries}
-use Rattle.checking.specs.declared.Kind.{Kind}
+use Rattle.terms.specs.declared.Kind.{Kind}
 use Rattle.checking.specs.declared.CheckState.{CheckState}
 use Rattle.checking.specs.declared.CheckTurn.{CheckTurn}
-use Rattle.checking.specs.declared.Refusal.{Refusal}
-use Rattle.checking.specs.declared.Stop.{Stop}
-use Rattle.checking.specs.Kinds.{anyName, most}
+use Rattle.terms.specs.declared.Refusal.{Refusal}
+use Rattle.terms.specs.declared.Stop.{Stop}
+use Rattle.terms.specs.Kinds.{anyName, most}
 use Rattle.checking.specs.Rule.{fresh, stepOf, closeOf, closedOf, openOf, accepted, nameless, secondRoot, inRange}
-use Rattle.checking.specs.Stops.{Told, haltTold}
-use Rattle.checking.specs.Turn.{runOf, lengthFault, refusedAt, turnWithin, turnOf}
+use Rattle.terms.specs.Stops.{Told, haltTold}
+use Rattle.checking.specs.Turn.{runOf, refusedAt, turnWithin, turnOf}
+use Rattle.terms.specs.Length.{lengthFault}
 use Rattle.checking.specs.Whole.{wholeOf}
 use Rattle.checking.proofs.Cases.{fresh-ranges}
 use Rattle.checking.proofs.Runs.{turn-length}

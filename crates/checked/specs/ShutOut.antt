@@ -18,15 +18,16 @@ use Rattle.turns.specs.Demand.{Faithful, ours-faithful, shut-out-state, shut-ou
 use Rattle.turns.specs.Chains.{Chain, one, more}
 use Rattle.trees.specs.Tree.{none}
 use Rattle.trees.specs.Signature.{cell, entriesOf, width, entries}
-use Rattle.checking.specs.declared.Kind.{Kind}
+use Rattle.terms.specs.declared.Kind.{Kind}
 use Rattle.checking.specs.declared.CheckState.{CheckState}
 use Rattle.checking.specs.declared.CheckTurn.{CheckTurn}
-use Rattle.checking.specs.declared.Stop.{Stop}
-use Rattle.checking.specs.declared.Refusal.{Refusal}
-use Rattle.checking.specs.declared.Verdict.{Verdict}
-use Rattle.checking.specs.Kinds.{anyName}
+use Rattle.terms.specs.declared.Stop.{Stop}
+use Rattle.terms.specs.declared.Refusal.{Refusal}
+use Rattle.terms.specs.declared.Verdict.{Verdict}
+use Rattle.terms.specs.Kinds.{anyName}
 use Rattle.checking.specs.Rule.{at, fresh, stepOf, closeOf, accepted, nameless, secondRoot, inRange, Ranges}
-use Rattle.checking.specs.Turn.{TurnPromise, turnOf, turnWithin, lengthFault}
+use Rattle.checking.specs.Turn.{TurnPromise, turnOf, turnWithin}
+use Rattle.terms.specs.Length.{lengthFault}
 use Rattle.checking.specs.Whole.{WholePromise}
 use Rattle.checking.proofs.Cases.{fresh-ranges}
 use Rattle.checked.specs.Menus.{single, twoRoots}

@@ -18,15 +18,15 @@ use Rattle.turns.specs.Chains.{one}
 use Rattle.trees.specs.Tree.{Tree, whole}
 use Rattle.trees.specs.Signature.{entriesOf, width, entries}
 use Rattle.trees.specs.Unique.{signature-unique}
-use Rattle.checking.specs.declared.Kind.{Kind}
+use Rattle.terms.specs.declared.Kind.{Kind}
 use Rattle.checking.specs.declared.CheckState.{CheckState}
 use Rattle.checking.specs.declared.CheckTurn.{CheckTurn}
-use Rattle.checking.specs.declared.Stop.{Stop}
-use Rattle.checking.specs.declared.Verdict.{Verdict}
-use Rattle.checking.specs.declared.Refusal.{Refusal}
-use Rattle.checking.specs.Kinds.{anyName, most}
+use Rattle.terms.specs.declared.Stop.{Stop}
+use Rattle.terms.specs.declared.Verdict.{Verdict}
+use Rattle.terms.specs.declared.Refusal.{Refusal}
+use Rattle.terms.specs.Kinds.{anyName, most}
 use Rattle.checking.specs.Rule.{fresh}
-use Rattle.checking.specs.Stops.{Told, told}
+use Rattle.terms.specs.Stops.{Told, told}
 use Rattle.checking.specs.Turn.{Handed, turnOf}
 use Rattle.checking.specs.Whole.{wholeOf, WholePromise}
 use Rattle.checked.specs.Yields.{Words, Yields, Exactly, Ended, Turns}

@@ -11,10 +11,10 @@ use lib.ListN.{getD}
 use Rattle.turns.specs.Chains.{Chain}
 use Rattle.trees.specs.Tree.{Tree, Grown}
 use Rattle.trees.specs.Signature.{signature, entries}
-use Rattle.checking.specs.declared.Kind.{Kind}
+use Rattle.terms.specs.declared.Kind.{Kind}
 use Rattle.checking.specs.declared.CheckState.{CheckState}
 use Rattle.checking.specs.declared.CheckTurn.{CheckTurn}
-use Rattle.checking.specs.Kinds.{anyName, most}
+use Rattle.terms.specs.Kinds.{anyName, most}
 use Rattle.checking.specs.Turn.{TurnPromise}
 
 -- "sixteen-bit numbers"

@@ -19,14 +19,16 @@ use Rattle.turns.specs.Laws.{turn-outcome}
 use Rattle.trees.specs.Signature.{Entries, entriesOf, width}
 use Rattle.checking.specs.declared.CheckState.{CheckState}
 use Rattle.checking.specs.Rule.{stepOf, accepted, Ranges, inRange, fresh}
-use Rattle.checking.specs.Turn.{runOf, lengthFault, turnWithin, turnOf, refusedAt}
+use Rattle.checking.specs.Turn.{runOf, turnWithin, turnOf, refusedAt}
+use Rattle.terms.specs.Length.{lengthFault}
 use Rattle.checking.specs.Whole.{wholeOf}
-use Rattle.checking.specs.declared.Kind.{Kind}
-use Rattle.checking.specs.declared.Stop.{Stop}
-use Rattle.checking.specs.declared.Verdict.{Verdict}
-use Rattle.checking.specs.declared.Refusal.{Refusal}
-use Rattle.checking.specs.Kinds.{most}
-use Rattle.checking.specs.Stops.{Told, told, haltTold, verdictTold}
+use Rattle.terms.specs.declared.Kind.{Kind}
+use Rattle.terms.specs.declared.Stop.{Stop}
+use Rattle.terms.specs.declared.Verdict.{Verdict}
+use Rattle.terms.specs.declared.Refusal.{Refusal}
+use Rattle.terms.specs.Kinds.{most}
+use Rattle.terms.specs.Stops.{Told, told, haltTold, verdictTold}
+use Rattle.terms.proofs.Lengths.{length-sized}
 use Rattle.checking.proofs.Cases.{range-yes, fresh-ranges}
 use Rattle.checking.proofs.Inverse.{step-ranges, step-grows, step-silent}
 
@@ -50,52 +52,6 @@ module _ (any : Bool) (n : ℕ) (e : Entries) where
       let r = moves-ranges (fresh-ranges n) m in
       absurd (omega (arith, moves-grow m, r .last, r .closed))
 
--- ---- the length
-
-pub length-whole : (w l : ℕ) → (eqb l 0 || not (eqb (l % w) 0)) ≡ false → (l ≡ 0 → ⊥) × (l % w ≡ 0)
-length-whole w l = go (eqb l 0) (eqb (l % w) 0) refl refl
-  where
-    go : (a b : Bool) → eqb l 0 ≡ a → eqb (l % w) 0 ≡ b → (a || not b) ≡ false → (l ≡ 0 → ⊥) × (l % w ≡ 0)
-    go true b p q h = absurd (false≢true (sym h))
-    go false false p q h = absurd (false≢true (sym h))
-    go false true p q h = (eqb-false _ _ p, eqb-true _ _ q)
-
-module _ (most w l : ℕ) where
-  pub length-cut : (eqb l 0 || not (eqb (l % w) 0)) ≡ true → lengthFault most w l ≡ 1
-  unfolding lengthFault
-  length-cut = go (eqb l 0) (eqb (l % w) 0)
-    where
-      go : (a b : Bool) → (a || not b) ≡ true → _≡_ {A = ℕ} (pick a 1 (pick b (pick (leb (l / w) most) 0 7) 1)) 1
-      go true b h = refl
-      go false false h = refl
-      go false true h = absurd (false≢true h)
-
-  module _ (some : l ≡ 0 → ⊥) where
-    module _ (even : l % w ≡ 0) where
-      pub length-over : most < l / w → lengthFault most w l ≡ 7
-      unfolding lengthFault
-      length-over h = simp (ne-eqb _ _ some, eq-eqb _ _ even, lt-leb _ _ h)
-
-      pub length-fine : l / w ≤ most → lengthFault most w l ≡ 0
-      unfolding lengthFault
-      length-fine h = simp (ne-eqb _ _ some, eq-eqb _ _ even, le-leb _ _ h)
-
-  -- a length that is not refused
-  pub record Sized : Type 0 where
-    pub some : l ≡ 0 → ⊥
-    pub even : l % w ≡ 0
-    pub small : l / w ≤ most
-
-  pub length-sized : lengthFault most w l ≡ 0 → Sized
-  unfolding lengthFault
-  length-sized = go (eqb l 0) (eqb (l % w) 0) (leb (l / w) most) refl refl refl
-    where
-      go : (a b c : Bool) → eqb l 0 ≡ a → eqb (l % w) 0 ≡ b → leb (l / w) most ≡ c → _≡_ {A = ℕ} (pick a 1 (pick b (pick c 0 7) 1)) 0 → Sized
-      go true b c ha hb hc h = absurd (omega arith)
-      go false false c ha hb hc h = absurd (omega arith)
-      go false true false ha hb hc h = absurd (omega arith)
-      go false true true ha hb hc h = record { some = eqb-false _ _ ha; even = eqb-true _ _ hb; small = leb-true _ _ hc }
-
 -- ---- a turn
 
 module _ (any : Bool) (most : ℕ) (s : List ℕ) (b : ℕ) (st : CheckState) where
@@ -111,11 +67,6 @@ module _ (any : Bool) (most : ℕ) (s : List ℕ) (b : ℕ) (st : CheckState) wh
     pub turn-run : inRange (length s / width) st ≡ true → turnWithin any most s b st ≡ runOf any (length s / width) (entriesOf width s) b st
     unfolding turnWithin
     turn-run h = simp (eq-eqb _ _ fine, h)
-
--- no kind has more than 4,096 elements
-pub most-small : (k : Kind) → most k ≤ 4096
-most-small Kind.Data = omega arith
-most-small Kind.Twig = omega arith
 
 -- ---- the whole check
 

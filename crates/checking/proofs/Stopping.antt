@@ -9,12 +9,12 @@ use borrow.Author.Tests.{eq-eqb, ne-eqb}
 use Rattle.turns.specs.Turn.{Turned}
 use Rattle.trees.specs.Signature.{width}
 use Rattle.checking.specs.declared.CheckState.{CheckState}
-use Rattle.checking.specs.declared.Kind.{Kind}
+use Rattle.terms.specs.declared.Kind.{Kind}
 use Rattle.checking.specs.declared.steps.Reached.{Reached}
-use Rattle.checking.specs.Kinds.{most}
-use Rattle.checking.specs.Turn.{lengthFault}
+use Rattle.terms.specs.Kinds.{most}
+use Rattle.terms.specs.Length.{lengthFault}
 use Rattle.checking.specs.Plain.{toldAs, Reaches}
-use Rattle.checking.proofs.Runs.{length-sized, most-small}
+use Rattle.terms.proofs.Lengths.{length-sized, most-small}
 
 -- ---- a stop reason by its numbers
 

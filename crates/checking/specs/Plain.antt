@@ -18,7 +18,7 @@ use Rattle.trees.specs.Signature.{Entries}
 use Rattle.checking.specs.declared.CheckState.{CheckState}
 use Rattle.checking.specs.declared.steps.Reached.{Reached}
 use Rattle.checking.specs.Rule.{at, accepted, stepOf, nameless, secondRoot}
-use Rattle.checking.specs.Stops.{Told, haltTold}
+use Rattle.terms.specs.Stops.{Told, haltTold}
 
 -- the number by which a step is refused
 unfoldable pub numberOf : Next CheckState → ℕ

@@ -1,31 +1,27 @@
 -- A turn of the check: "whole length (1, then 7)", state (9), then the steps.
 --   runOf any n e b st         the steps, as the rule writes them
---   lengthFault most w l       the refusal of a list of l numbers, w to an entry, or 0
 --   turnOf k s b st            the whole turn
 --   TurnPromise k s b st r     r says and leaves what that turn does
-use Prim.Native.Nat.{ℕ, _/_, _%_}
+use Prim.Native.Nat.{ℕ, _/_}
 use mathlib.Core.Path.{_≡_}
 use mathlib.Core.List.{List}
 use mathlib.Core.Bool.{Bool}
 use lib.ListN.{length}
-use lib.Dec.{leb, eqb}
+use lib.Dec.{eqb}
 use Rattle.turns.specs.Pick.{pick}
 use Rattle.turns.specs.Turn.{Turned, Halt, turn}
 use Rattle.trees.specs.Signature.{Entries, entriesOf, width}
 use Rattle.checking.specs.declared.CheckState.{CheckState}
 use Rattle.checking.specs.declared.CheckTurn.{CheckTurn}
-use Rattle.checking.specs.declared.Kind.{Kind}
-use Rattle.checking.specs.Kinds.{anyName, most}
+use Rattle.terms.specs.declared.Kind.{Kind}
+use Rattle.terms.specs.Kinds.{anyName, most}
+use Rattle.terms.specs.Length.{lengthFault}
 use Rattle.checking.specs.Rule.{stepOf, accepted, inRange}
-use Rattle.checking.specs.Stops.{told, haltTold}
+use Rattle.terms.specs.Stops.{told, haltTold}
 
 -- at most b steps of the rule
 abbrev pub runOf : Bool → ℕ → Entries → ℕ → CheckState → Turned CheckState
 runOf any n e b st = turn CheckState (accepted n) (stepOf any n e) b st
-
--- "whole length (1, then 7)": empty or cut inside an entry 1, more than `most` entries 7, else 0
-unfoldable pub lengthFault : ℕ → ℕ → ℕ → ℕ
-lengthFault most w l = pick (eqb l 0) 1 (pick (eqb (l % w) 0) (pick (leb (l / w) most) 0 7) 1)
 
 -- refused before any step: the state as given, no step
 abbrev pub refusedAt : {S : Type 0} → S → ℕ → Turned S

@@ -4,12 +4,12 @@
 use Prim.Native.Nat.{ℕ, _+_, _*_}
 use mathlib.Core.Path.{_≡_}
 use mathlib.Core.List.{List}
-use Rattle.checking.specs.declared.Kind.{Kind}
-use Rattle.checking.specs.declared.Verdict.{Verdict}
-use Rattle.checking.specs.Kinds.{most}
+use Rattle.terms.specs.declared.Kind.{Kind}
+use Rattle.terms.specs.declared.Verdict.{Verdict}
+use Rattle.terms.specs.Kinds.{most}
 use Rattle.checking.specs.Rule.{fresh}
 use Rattle.checking.specs.Turn.{turnOf}
-use Rattle.checking.specs.Stops.{Told, haltTold, verdictTold}
+use Rattle.terms.specs.Stops.{Told, haltTold, verdictTold}
 
 -- the stop of a turn from the fresh state that its budget never stops
 abbrev pub wholeOf : Kind → List ℕ → Told

@@ -6,11 +6,11 @@ ghost use Rattle.trees.specs.Signature.{cell, entriesOf, width};
 ghost use Rattle.checking.specs.Rule.{Ranges, at, closeOf, stepOf};
 ghost use Rattle.checking.specs.Turn.{runOf};
 ghost use Rattle.checking.specs.Plain.{numberOf, entryFault, opened, closeEntry, restOf, haltedAt, Reaches};
-use crate::BAD_STATE;
-use crate::NAMELESS;
-use crate::NOT_OPEN;
-use crate::WRONG_FF;
-use crate::WRONG_POST;
+use terms::BAD_STATE;
+use terms::NAMELESS;
+use terms::NOT_OPEN;
+use terms::WRONG_FF;
+use terms::WRONG_POST;
 
 // What stopped a turn, by the numbers that the promises give to the stop reasons.
 pub const ENDED: u16 = 1;

@@ -2,7 +2,7 @@
 ghost use mathlib.Core.Path.{_≡_};
 ghost use lib.ListN.{getD};
 ghost use Rattle.trees.specs.Signature.{cell, width};
-use checking::PreRank;
+use terms::PreRank;
 
 // The number at a place, or 0 past the end.
 fn number_or_zero(sig: &[u16], at: usize) -> u16

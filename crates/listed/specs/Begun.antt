@@ -12,7 +12,7 @@ use lib.Dec.{eqb}
 use lib.ListN.{length, getD}
 use borrow.Author.Tests.{eq-eqb, ne-eqb}
 use Rattle.turns.specs.Pick.{pick}
-use Rattle.checking.specs.declared.Refusal.{Refusal}
+use Rattle.terms.specs.declared.Refusal.{Refusal}
 use Rattle.preparing.specs.declared.Prep.{Prep}
 use Rattle.preparing.specs.declared.Started.{Started}
 use Rattle.preparing.specs.PrepTurn.{StartPromise, Fresh, startTold, startFault, cleared, prepAt}

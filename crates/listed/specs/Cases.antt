@@ -16,9 +16,10 @@ use Rattle.turns.specs.Turn.{Turned, run}
 use Rattle.turns.specs.Chains.{one, more}
 use Rattle.trees.specs.Signature.{cell}
 use Rattle.trees.specs.Names.{passes}
-use Rattle.checking.specs.declared.Stop.{Stop}
+use Rattle.terms.specs.declared.Stop.{Stop}
 use Rattle.checking.specs.Rule as check
-use Rattle.checking.specs.Turn.{turnWithin, lengthFault}
+use Rattle.checking.specs.Turn.{turnWithin}
+use Rattle.terms.specs.Length.{lengthFault}
 use Rattle.checked.specs.Apart.{stopOf, told-stop}
 use Rattle.checked.specs.Menus.{ten, five, tarts, fork, pair}
 use Rattle.preparing.specs.declared.Started.{Started}

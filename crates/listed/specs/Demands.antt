@@ -19,7 +19,7 @@ use Rattle.turns.specs.Laws.{turn-outcome, outcome-turn}
 use Rattle.turns.specs.Chains.{Chain, one, more}
 use Rattle.trees.specs.Signature.{entriesOf, width, entries}
 use Rattle.walks.specs.Chained.{told, AllButLast}
-use Rattle.checking.specs.declared.Stop.{Stop}
+use Rattle.terms.specs.declared.Stop.{Stop}
 use Rattle.preparing.specs.declared.Prep.{Prep}
 use Rattle.preparing.specs.declared.Started.{Started}
 use Rattle.walking.specs.declared.Walk.{Walk}

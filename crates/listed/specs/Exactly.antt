@@ -28,7 +28,7 @@ use Rattle.walks.specs.Telling.{tell, fresh-told, fresh-all, chain-limit}
 use Rattle.walks.specs.Within.{turn-limit}
 use Rattle.walks.specs.Chained.{told, AllButLast, chain-last, chain-one}
 use Rattle.walks.specs.Stepping.{step-unrefused}
-use Rattle.checking.specs.declared.Stop.{Stop}
+use Rattle.terms.specs.declared.Stop.{Stop}
 use Rattle.checked.specs.Apart.{stopOf}
 use Rattle.walking.specs.declared.Walk.{Walk}
 use Rattle.walking.specs.declared.WalkTurn.{WalkTurn}

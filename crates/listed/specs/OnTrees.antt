@@ -16,7 +16,7 @@ use Rattle.trees.specs.Rows.{Holds}
 use Rattle.trees.specs.Facts.{Facts}
 use Rattle.trees.specs.FactsOf.{facts-of}
 use Rattle.trees.specs.Meanings.{below-ff, ff-below, parent-fa, fa-some}
-use Rattle.checking.specs.declared.Kind.{Kind}
+use Rattle.terms.specs.declared.Kind.{Kind}
 use Rattle.checked.specs.Wholly.{AcceptedTree, accepted-tree}
 use Rattle.walks.specs.Image.{image, Below as RankBelow}
 use Rattle.walks.specs.Maps.{Lists, ranks-list, list-ranks, list-names}

@@ -18,7 +18,7 @@ use Rattle.turns.specs.Pick.{pick}
 use Rattle.turns.specs.Turn.{Turned, turn}
 use Rattle.turns.specs.Chains.{Reached, Underway, chain-ends}
 use Rattle.trees.specs.Signature.{Entries, entriesOf, width, entries}
-use Rattle.checking.specs.declared.Stop.{Stop}
+use Rattle.terms.specs.declared.Stop.{Stop}
 use Rattle.checked.specs.Apart.{stopOf, told-halt}
 use Rattle.preparing.specs.declared.Prep.{Prep}
 use Rattle.preparing.specs.declared.Started.{Started}

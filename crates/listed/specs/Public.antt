@@ -11,7 +11,7 @@ use Rattle.turns.specs.Turn.{Next, Turned, turn, Step, Steps, none, then}
 use Rattle.turns.specs.Counts.{counted}
 use Rattle.turns.specs.Chains.{Chain, one, more, Turns}
 use Rattle.walks.specs.Chained.{told, AllButLast}
-use Rattle.checking.specs.declared.Stop.{Stop}
+use Rattle.terms.specs.declared.Stop.{Stop}
 use Rattle.checked.specs.Apart.{stopOf}
 
 -- what a public turn hands back is a turn of the rule

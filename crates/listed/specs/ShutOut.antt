@@ -18,8 +18,8 @@ use Rattle.turns.specs.Chains.{one}
 use Rattle.trees.specs.Signature.{cell, entriesOf, width}
 use Rattle.trees.specs.Names.{passes}
 use Rattle.walks.specs.Chained.{told}
-use Rattle.checking.specs.declared.Stop.{Stop}
-use Rattle.checking.specs.declared.Refusal.{Refusal}
+use Rattle.terms.specs.declared.Stop.{Stop}
+use Rattle.terms.specs.declared.Refusal.{Refusal}
 use Rattle.checked.specs.Menus.{ten, tarts, fork}
 use Rattle.walk_ranges.specs.declared.Phase.{Phase}
 use Rattle.walking.specs.declared.Walk.{Walk}

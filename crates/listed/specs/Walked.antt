@@ -26,7 +26,7 @@ use Rattle.walks.specs.Chained as chained
 use Rattle.walks.specs.Chained.{AllButLast}
 use Rattle.walks.specs.Mirror.{asTurned, Mirrors, turn-mirrored, turn-inv, chain-mirrored}
 use Rattle.walks.specs.Room.{imageOf, roomOf, room-take}
-use Rattle.checking.specs.declared.Stop.{Stop}
+use Rattle.terms.specs.declared.Stop.{Stop}
 use Rattle.checked.specs.Apart.{stopOf, told-halt}
 use Rattle.walking.specs.declared.Walk.{Walk}
 use Rattle.walking.specs.declared.WalkTurn.{WalkTurn}

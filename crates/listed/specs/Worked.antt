@@ -22,10 +22,11 @@ use Rattle.walks.specs.Walking.{answersFrom, passing, passingOf}
 use Rattle.walks.specs.Room.{imageOf}
 use Rattle.walks.specs.Chained.{told}
 use Rattle.walks.specs.Maps.{Lists}
-use Rattle.checking.specs.declared.Kind.{Kind}
-use Rattle.checking.specs.declared.Stop.{Stop}
+use Rattle.terms.specs.declared.Kind.{Kind}
+use Rattle.terms.specs.declared.Stop.{Stop}
 use Rattle.checking.specs.Rule as check
-use Rattle.checking.specs.Turn.{turnWithin, lengthFault}
+use Rattle.checking.specs.Turn.{turnWithin}
+use Rattle.terms.specs.Length.{lengthFault}
 use Rattle.walk_ranges.specs.declared.Phase.{Phase}
 use Rattle.walking.specs.declared.WalkTurn.{WalkTurn}
 use Rattle.preparing.specs.Masks.{every, hasBit, can}

@@ -11,8 +11,8 @@ use lib.ListN.{length, length-append}
 use Rattle.trees.specs.Tree.{Tree, whole, Grown}
 use Rattle.trees.specs.Signature.{signature}
 use Rattle.trees.specs.Tags.{treeTags}
-use Rattle.checking.specs.declared.Kind.{Kind}
-use Rattle.checking.specs.Kinds.{anyName, most}
+use Rattle.terms.specs.declared.Kind.{Kind}
+use Rattle.terms.specs.Kinds.{anyName, most}
 use Rattle.tag_scan.specs.TagLists.{tagBytes, numbersIn}
 use Rattle.tag_writing.proofs.Emit.{tag-bytes-length}
 use Rattle.retold.specs.Taken.{Bytes, Taken}

@@ -13,8 +13,8 @@ use lib.ListN.{length}
 use lib.Dec.{ltb, leb}
 use borrow.Author.Tests.{eq-eqb, ne-eqb, lt-ltb, le-ltb}
 use Rattle.turns.specs.Pick.{pick}
-use Rattle.checking.specs.declared.Kind.{Kind}
-use Rattle.checking.specs.Kinds.{anyName, most}
+use Rattle.terms.specs.declared.Kind.{Kind}
+use Rattle.terms.specs.Kinds.{anyName, most}
 use Rattle.bytes_read.specs.Scans.{Scan, firstFault, begin, haltNumber}
 use Rattle.bytes_read.proofs.Scanning.{Ended, Faulty, scan-comes}
 use Rattle.tag_scan.specs.TagLists.{opening, closing, namelessAt, misnested, tagFault, tagNext, treeEnd, treeScan}

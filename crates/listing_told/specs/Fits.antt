@@ -13,7 +13,7 @@ use lib.ListN.{length, take, drop, getD, length-append}
 use lib.Seq.{take-length}
 use Rattle.trees.specs.Signature.{entriesOf, width, entries}
 use Rattle.walks.specs.Every.{Every, every-of}
-use Rattle.checking.specs.declared.Kind.{Kind}
+use Rattle.terms.specs.declared.Kind.{Kind}
 use Rattle.checked.specs.Wholly.{accepted-tree}
 use Rattle.retold.specs.Taken.{Bytes}
 use Rattle.listed.specs.Loose.{LooseAnswer}

@@ -14,9 +14,9 @@ use borrow.Author.Tests.{ne-eqb, le-leb}
 use Rattle.turns.specs.Turn.{Turned}
 use Rattle.turns.specs.Chains.{one}
 use Rattle.trees.specs.Signature.{entries}
-use Rattle.checking.specs.declared.Kind.{Kind}
-use Rattle.checking.specs.declared.Stop.{Stop}
-use Rattle.checking.specs.Kinds.{anyName, most}
+use Rattle.terms.specs.declared.Kind.{Kind}
+use Rattle.terms.specs.declared.Stop.{Stop}
+use Rattle.terms.specs.Kinds.{anyName, most}
 use Rattle.checked.specs.Yields.{Yields}
 use Rattle.checked.specs.Wholly.{accepted-tree, yields-accepted}
 use Rattle.bytes_read.specs.Scans.{haltNumber}

@@ -10,7 +10,7 @@ use lib.ListN.{length, take, replicate, length-append}
 use lib.Seq.{take-append-seam}
 use borrow.Author.Tests.{eq-eqb, le-ltb}
 use Rattle.trees.specs.Signature.{entries}
-use Rattle.checking.specs.declared.Stop.{Stop}
+use Rattle.terms.specs.declared.Stop.{Stop}
 use Rattle.walking.specs.declared.WalkTurn.{WalkTurn}
 use Rattle.walking.specs.Walking.{fresh}
 use Rattle.listed.specs.Questions.{Accepted, Prepared, WalkTurns, start}

@@ -12,8 +12,8 @@ use lib.ListN.{length, take}
 use Rattle.turns.specs.Chains.{one, more}
 use Rattle.trees.specs.Signature.{entries}
 use Rattle.walks.specs.Chained.{told}
-use Rattle.checking.specs.declared.Kind.{Kind}
-use Rattle.checking.specs.declared.Stop.{Stop}
+use Rattle.terms.specs.declared.Kind.{Kind}
+use Rattle.terms.specs.declared.Stop.{Stop}
 use Rattle.checked.specs.Wholly.{accepted-tree}
 use Rattle.walking.specs.declared.Walk.{Walk}
 use Rattle.walking.specs.declared.WalkTurn.{WalkTurn}

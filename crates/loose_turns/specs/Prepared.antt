@@ -20,9 +20,9 @@ use Rattle.turns.specs.Turn.{Next, moved, answered, refused, Halt, Turned, turn
 use Rattle.turns.specs.Counts as Counts
 use Rattle.turns.specs.Laws as Laws
 use Rattle.trees.specs.Signature.{entriesOf, width, entries}
-use Rattle.checking.specs.declared.Stop.{Stop}
-use Rattle.checking.specs.declared.Refusal.{Refusal}
-use Rattle.checking.specs.Stops.{told, haltTold}
+use Rattle.terms.specs.declared.Stop.{Stop}
+use Rattle.terms.specs.declared.Refusal.{Refusal}
+use Rattle.terms.specs.Stops.{told, haltTold}
 use Rattle.checked.specs.Apart.{haltOf, told-apart, told-halt, halt-told}
 use Rattle.preparing.specs.declared.Prep.{Prep}
 use Rattle.preparing.specs.declared.PrepTurn.{PrepTurn}

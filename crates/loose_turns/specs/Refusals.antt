@@ -19,11 +19,12 @@ use borrow.Author.Tests.{eqb-true, eqb-false, leb-true, leb-false}
 use Rattle.turns.specs.Pick.{pick}
 use Rattle.turns.specs.Turn.{moved, answered, refused, Turned, run}
 use Rattle.trees.specs.Signature.{cell, Entries, entriesOf, width, entries}
-use Rattle.checking.specs.declared.Kind.{Kind}
-use Rattle.checking.specs.Kinds.{most}
+use Rattle.terms.specs.declared.Kind.{Kind}
+use Rattle.terms.specs.Kinds.{most}
 use Rattle.checking.specs.Rule as check
-use Rattle.checking.specs.Stops.{told, haltTold}
-use Rattle.checking.specs.Turn.{lengthFault, refusedAt, turnWithin}
+use Rattle.terms.specs.Stops.{told, haltTold}
+use Rattle.checking.specs.Turn.{refusedAt, turnWithin}
+use Rattle.terms.specs.Length.{lengthFault}
 use Rattle.checking.specs.Whole.{wholeOf}
 use Rattle.checked.specs.Menus.{single}
 use Rattle.checked.specs.Refusals.{OneOf, one-not, one-among, StepIn, turn-numbers, checkRefusals, length-numbers, whole-numbers}

@@ -13,7 +13,8 @@ use lib.ListN.{length}
 use Rattle.turns.specs.Turn.{Steps, run}
 use Rattle.trees.specs.Signature.{cell, entriesOf, width}
 use Rattle.checking.specs.Rule as check
-use Rattle.checking.specs.Turn.{turnWithin, lengthFault}
+use Rattle.checking.specs.Turn.{turnWithin}
+use Rattle.terms.specs.Length.{lengthFault}
 use Rattle.checked.specs.Menus.{five, pair}
 use Rattle.preparing.specs.declared.PrepTurn.{PrepTurn}
 use Rattle.preparing.specs.Masks.{every}

@@ -17,9 +17,9 @@ use Rattle.turns.specs.Turn.{Next, Halt, Turned, turn, Step, on, found, Steps}
 use Rattle.turns.specs.Counts as Counts
 use Rattle.turns.specs.Laws as Laws
 use Rattle.trees.specs.Signature.{Entries, entriesOf, width, entries}
-use Rattle.checking.specs.declared.Stop.{Stop}
-use Rattle.checking.specs.declared.Refusal.{Refusal}
-use Rattle.checking.specs.Stops.{haltTold}
+use Rattle.terms.specs.declared.Stop.{Stop}
+use Rattle.terms.specs.declared.Refusal.{Refusal}
+use Rattle.terms.specs.Stops.{haltTold}
 use Rattle.checked.specs.Apart.{haltOf, told-apart, told-halt, halt-told}
 use Rattle.walking.specs.declared.Walk.{Walk}
 use Rattle.walking.specs.declared.WalkTurn.{WalkTurn}

@@ -12,12 +12,12 @@ use lib.ListN.{length}
 use lib.Dec.{leb}
 use borrow.Author.Tests.{le-leb, lt-leb, leb-true}
 use Rattle.trees.specs.Signature.{entries}
-use Rattle.checking.specs.declared.Refusal.{Refusal}
-use Rattle.checking.specs.declared.Written.{Written}
-use Rattle.checking.specs.Stops.{worked, refusedAs}
+use Rattle.terms.specs.declared.Refusal.{Refusal}
+use Rattle.terms.specs.declared.Written.{Written}
+use Rattle.terms.specs.Stops.{worked, refusedAs}
 use Rattle.xpath.specs.Select.{rises, within}
 use Rattle.xpath.specs.SelectLaws.{front}
-use Rattle.checking.specs.Room.{roomFor, writtenLeft, refusedLeft, Left, Leaves}
+use Rattle.terms.specs.Room.{roomFor, writtenLeft, refusedLeft, Left, Leaves}
 use Rattle.marks.specs.Axis.{argumentsFine, axisWithin, answerIn}
 
 -- ---- arguments

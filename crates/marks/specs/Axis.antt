@@ -9,8 +9,8 @@ use mathlib.Core.Bool.{Bool, _&&_}
 use lib.Dec.{leb}
 use Rattle.turns.specs.Pick.{pick}
 use Rattle.trees.specs.Signature.{entriesOf, width, entries}
-use Rattle.checking.specs.declared.Written.{Written}
-use Rattle.checking.specs.Room.{Left, refusedLeft, roomFor, Leaves}
+use Rattle.terms.specs.declared.Written.{Written}
+use Rattle.terms.specs.Room.{Left, refusedLeft, roomFor, Leaves}
 use Rattle.xpath.specs.Select.{rises, within}
 use Rattle.xpath.specs.Axes.{answerOf}
 use Rattle.blocks.specs.Checked.{afterCheck}

@@ -1,9 +1,9 @@
 // Layer 4, marks: what every axis call ends with. Its arguments are judged, and the ranks that have a mark are written.
-use checking::NO_ROOM;
-use checking::PreRank;
-use checking::Refusal;
-use checking::Written;
 use entries::entry_number;
+use terms::NO_ROOM;
+use terms::PreRank;
+use terms::Refusal;
+use terms::Written;
 ghost use mathlib.Core.Path.{_≡_};
 ghost use mathlib.Core.Bool.{true, _&&_};
 ghost use Prim.Native.Nat.{_≤_};
@@ -12,7 +12,7 @@ ghost use Rattle.trees.specs.Names.{passes};
 ghost use Rattle.xpath.specs.Select.{upTo, rises, within};
 ghost use Rattle.xpath.specs.SelectLaws.{front};
 ghost use Rattle.trees.specs.Signature.{entriesOf, width};
-ghost use Rattle.checking.specs.Room.{roomFor, Leaves};
+ghost use Rattle.terms.specs.Room.{roomFor, Leaves};
 ghost use Rattle.marks.specs.Axis.{argumentsFine};
 ghost use Rattle.marks.specs.Marks.{marked, lesser};
 

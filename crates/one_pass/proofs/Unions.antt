@@ -13,14 +13,14 @@ use native.Mathlib.Omega.{arith}
 use lib.ListN.{length, getD}
 use Rattle.trees.specs.Signature.{entriesOf, width}
 use Rattle.trees.specs.Names.{passes}
-use Rattle.checking.specs.declared.Written.{Written}
+use Rattle.terms.specs.declared.Written.{Written}
 use Rattle.xpath.specs.Select.{upTo, within}
 use Rattle.xpath.specs.SelectLaws.{up-same}
 use Rattle.xpath.specs.Rising.{within-at}
 use Rattle.xpath.specs.Axes.{inAnswer, answerOf}
 use Rattle.xpath.specs.Spread.{isContext, spreadOf}
 use Rattle.xpath.specs.SpreadUnion.{spread-same, spread-self, spread-below-or-self, spread-above-or-self, spread-answer}
-use Rattle.checking.specs.Room.{roomFor, Leaves}
+use Rattle.terms.specs.Room.{roomFor, Leaves}
 use Rattle.marks.specs.Marks.{marked, Marks, lesser}
 use Rattle.marks.proofs.Marking.{lesser-first}
 

@@ -1,6 +1,6 @@
 // Passes that carry one number along: below and following from the first entry up, above and preceding from the last one down.
 use blocks::first_past;
-use checking::PreRank;
+use terms::PreRank;
 ghost use mathlib.Core.Path.{_≡_};
 ghost use mathlib.Core.Bool.{_||_};
 ghost use lib.Dec.{eqb};

@@ -1,6 +1,6 @@
 // Passes that hand marks from an element to its parent, or from a parent to its children.
 use blocks::parent;
-use checking::PreRank;
+use terms::PreRank;
 ghost use mathlib.Core.Path.{_≡_};
 ghost use mathlib.Core.Bool.{false, not, _&&_, _||_};
 ghost use Prim.Native.Nat.{_≤_};

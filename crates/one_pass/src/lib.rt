@@ -10,7 +10,7 @@ ghost use Rattle.xpath.specs.Select.{within};
 ghost use Rattle.xpath.specs.Axes.{inAnswer, answerOf};
 ghost use Rattle.xpath.specs.Spread.{isContext, spreadOf};
 ghost use Rattle.blocks.specs.Checked.{Ready};
-ghost use Rattle.checking.specs.Room.{roomFor, Leaves};
+ghost use Rattle.terms.specs.Room.{roomFor, Leaves};
 ghost use Rattle.marks.specs.Axis.{axisWithin, AxisPromise};
 ghost use Rattle.marks.specs.Marks.{marked, Marks};
 
@@ -21,12 +21,6 @@ use carried::mark_above;
 use carried::mark_below;
 use carried::mark_following;
 use carried::mark_preceding;
-use checking::BAD_ARGUMENT;
-use checking::Kind;
-use checking::PreRank;
-use checking::Refusal;
-use checking::Verdict;
-use checking::Written;
 use checking::check_whole;
 use handed::mark_children;
 use handed::mark_earlier;
@@ -35,6 +29,12 @@ use handed::mark_parents;
 use marks::is_fine;
 use marks::is_named;
 use marks::write_marked;
+use terms::BAD_ARGUMENT;
+use terms::Kind;
+use terms::PreRank;
+use terms::Refusal;
+use terms::Verdict;
+use terms::Written;
 
 // Marks the contexts.
 fn mark_contexts(n: u16, contexts: &[u16], from: &mut [u8; 4097])

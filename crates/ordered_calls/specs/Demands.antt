@@ -15,21 +15,22 @@ use borrow.Author.Tests.{le-leb, leb-true, eq-eqb, eqb-true}
 use Rattle.turns.specs.Turn.{Halt}
 use Rattle.trees.specs.Tree.{whole, size}
 use Rattle.trees.specs.Signature.{entries}
-use Rattle.checking.specs.declared.Kind.{Kind}
-use Rattle.checking.specs.declared.Written.{Written}
-use Rattle.checking.specs.declared.Refusal.{Refusal}
-use Rattle.checking.specs.declared.Verdict.{Verdict}
-use Rattle.checking.specs.Kinds.{most}
+use Rattle.terms.specs.declared.Kind.{Kind}
+use Rattle.terms.specs.declared.Written.{Written}
+use Rattle.terms.specs.declared.Refusal.{Refusal}
+use Rattle.terms.specs.declared.Verdict.{Verdict}
+use Rattle.terms.specs.Kinds.{most}
 use Rattle.checking.specs.Rule.{fresh}
 use Rattle.checking.specs.Turn.{turnOf}
-use Rattle.checking.specs.Stops.{verdictTold, haltTold, refusedAs, answered}
+use Rattle.terms.specs.Stops.{verdictTold, haltTold, refusedAs, answered}
 use Rattle.checking.specs.Whole.{wholeOf}
-use Rattle.checking.specs.Room.{Left, refusedLeft}
+use Rattle.terms.specs.Room.{Left, refusedLeft}
 use Rattle.checked.specs.Yields.{Words, Yields}
 use Rattle.checked.specs.Accepted.{tree-of}
 use Rattle.checked.specs.Apart.{answered-apart}
 use Rattle.checked.specs.Wholly.{yields-accepted, whole-exactly, accepted-reason}
-use Rattle.ordered.specs.Promise.{allUpTo, tupleFits, orderedOf, OrderedPromise}
+use Rattle.ordered_given.specs.Judged.{allUpTo, tupleFits}
+use Rattle.ordered.specs.Promise.{orderedOf, OrderedPromise}
 use Rattle.ordered_calls.specs.Exactly.{Accepts, Meant, ordered-exactly, fault-tuple}
 
 -- what a call says and leaves

@@ -20,7 +20,7 @@ use Rattle.trees.specs.Meanings.{below-ff, ff-below, ff-is}
 use Rattle.trees.specs.Names.{Passes}
 use Rattle.walks.specs.Image.{image}
 use Rattle.walks.specs.Maps.{Lists, ranks-list, list-ranks, list-names}
-use Rattle.checking.specs.declared.Kind.{Kind}
+use Rattle.terms.specs.declared.Kind.{Kind}
 use Rattle.checked.specs.Wholly.{AcceptedTree, accepted-tree}
 use Rattle.ordering.specs.Answer.{Placed, Answer}
 use Rattle.ordering.specs.Listing.{answersOf, answers-exactly}

@@ -16,17 +16,19 @@ use Rattle.turns.specs.Pick.{pick}
 use Rattle.turns.specs.Turn.{run}
 use Rattle.trees.specs.Names.{passes}
 use Rattle.trees.specs.Signature.{cell, entriesOf, width, entries}
-use Rattle.checking.specs.declared.Kind.{Kind}
-use Rattle.checking.specs.declared.Written.{Written}
+use Rattle.terms.specs.declared.Kind.{Kind}
+use Rattle.terms.specs.declared.Written.{Written}
 use Rattle.checking.specs.Rule.{stepOf, closeOf, accepted, nameless, secondRoot, inRange}
-use Rattle.checking.specs.Room.{refusedLeft, writtenLeft, roomFor}
-use Rattle.checking.specs.Stops.{answered}
-use Rattle.checking.specs.Turn.{turnWithin, lengthFault}
+use Rattle.terms.specs.Room.{refusedLeft, writtenLeft, roomFor}
+use Rattle.terms.specs.Stops.{answered}
+use Rattle.checking.specs.Turn.{turnWithin}
+use Rattle.terms.specs.Length.{lengthFault}
 use Rattle.checking.specs.Whole.{wholeOf}
 use Rattle.checked.specs.Menus.{single}
 use Rattle.checked.specs.Refusals.{whole-not-ten}
 use Rattle.ordering.specs.Next.{ranks, tuples, placedTest, laterTest, answerTest, smallerTest, firstOf, nextAnswer}
-use Rattle.ordered.specs.Promise.{allUpTo, tupleFits, orderedOf, OrderedPromise}
+use Rattle.ordered_given.specs.Judged.{allUpTo, tupleFits}
+use Rattle.ordered.specs.Promise.{orderedOf, OrderedPromise}
 
 module _ (s w g room : List ℕ) where
   -- the smallest ordered answer greater than the tuple

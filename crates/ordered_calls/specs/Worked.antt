@@ -10,11 +10,12 @@ use Rattle.turns.specs.Turn.{run}
 use Rattle.trees.specs.Tree.{Tree}
 use Rattle.trees.specs.Names.{passes}
 use Rattle.trees.specs.Signature.{cell, entriesOf, width, entries}
-use Rattle.checking.specs.declared.Kind.{Kind}
-use Rattle.checking.specs.declared.Written.{Written}
+use Rattle.terms.specs.declared.Kind.{Kind}
+use Rattle.terms.specs.declared.Written.{Written}
 use Rattle.checking.specs.Rule.{stepOf, closeOf, accepted, nameless, secondRoot, inRange}
-use Rattle.checking.specs.Turn.{turnWithin, lengthFault}
-use Rattle.checking.specs.Room.{roomFor}
+use Rattle.checking.specs.Turn.{turnWithin}
+use Rattle.terms.specs.Length.{lengthFault}
+use Rattle.terms.specs.Room.{roomFor}
 use Rattle.checked.specs.Menus.{ten, fork}
 use Rattle.checked.specs.Wholly.{accepted-tree}
 use Rattle.walks.specs.Maps.{Lists}

@@ -2,9 +2,9 @@
 use Prim.Native.Nat.{ℕ}
 use mathlib.Core.Path.{_≡_, ap, _∙_}
 use mathlib.Core.List.{List}
-use Rattle.checking.specs.Room.{Left, Leaves}
-use Rattle.checking.specs.declared.Written.{Written}
-use Rattle.checking.specs.Stops.{answered}
+use Rattle.terms.specs.Room.{Left, Leaves}
+use Rattle.terms.specs.declared.Written.{Written}
+use Rattle.terms.specs.Stops.{answered}
 use Rattle.telling.specs.Numbers.{AnswerTold, LeftNumbers}
 use Rattle.telling.proofs.Laws.{answer-as}
 

@@ -5,10 +5,10 @@ ghost use Prim.Native.Nat.{_+_, _*_, _≤_};
 ghost use lib.ListN.{length};
 ghost use lib.Seq.{sets};
 ghost use Rattle.trees.specs.Signature.{width};
-ghost use Rattle.checking.specs.Room.{frontWith};
+ghost use Rattle.terms.specs.Room.{frontWith};
 ghost use Rattle.records.specs.Records.{entryBytes, bytesFrom, namelessFrom, writeFault, WritePromise};
-use checking::Kind;
-use checking::Written;
+use terms::Kind;
+use terms::Written;
 
 // Writes one signature record at a place of the room.
 fn put_record(room: &mut [u8], at: usize, name: u16, post: u16, ff: u16, fa: u16)
@@ -64,12 +64,12 @@ fn write_fault(sig: &[u16]) -> u16
     ensures { λ r. ⌜ r ≡ writeFault (now (sig .entry)) ⌝ }
 {
     let len = sig.len();
-    let fault = checking::length_fault(Kind::Data, len);
+    let fault = terms::length_fault(Kind::Data, len);
     if fault != 0 {
         return fault;
     }
     if has_nameless(sig, len / 4) {
-        return checking::NAMELESS;
+        return terms::NAMELESS;
     }
     0
 }
@@ -84,7 +84,7 @@ pub fn write_records(sig: &[u16], room: &mut [u8]) -> Written
     }
     let size = sig.len() / 4;
     if room.len() / 10 < size {
-        return bytes_read::refused(checking::NO_ROOM);
+        return bytes_read::refused(terms::NO_ROOM);
     }
     fill_records(sig, size, room);
     Written::Length(10 * size)

@@ -14,9 +14,9 @@ use Rattle.bytes_read.specs.Bytes.{numberAt, marked}
 use Rattle.bytes_read.specs.Scans.{Scan, firstFault}
 use Rattle.records.specs.Records.{recordAt, recordNext, recordFault, recordsEnd, writeFault, namelessFrom}
 use Rattle.trees.specs.Signature.{width}
-use Rattle.checking.specs.Kinds.{most}
-use Rattle.checking.specs.Turn.{lengthFault}
-use Rattle.checking.specs.declared.Kind.{Kind}
+use Rattle.terms.specs.Kinds.{most}
+use Rattle.terms.specs.Length.{lengthFault}
+use Rattle.terms.specs.declared.Kind.{Kind}
 
 -- one record more
 pub record-after : (n : ℕ) → recordAt (n + 1) ≡ recordNext (recordAt n)

@@ -14,13 +14,13 @@ use lib.Dec.{ltb, leb, eqb}
 use Rattle.turns.specs.Pick.{pick}
 use Rattle.turns.specs.Turn.{Turned}
 use Rattle.trees.specs.Signature.{width, entries}
-use Rattle.checking.specs.Kinds.{most}
-use Rattle.checking.specs.Turn.{lengthFault}
-use Rattle.checking.specs.declared.Kind.{Kind}
-use Rattle.checking.specs.declared.Written.{Written}
+use Rattle.terms.specs.Kinds.{most}
+use Rattle.terms.specs.Length.{lengthFault}
+use Rattle.terms.specs.declared.Kind.{Kind}
+use Rattle.terms.specs.declared.Written.{Written}
 use Rattle.bytes_read.specs.Bytes.{numberAt, low, high, marked}
 use Rattle.bytes_read.specs.Scans.{Scan, firstFault, begin, scanBy, haltNumber}
-use Rattle.checking.specs.Room.{Left, leftBy, Leaves}
+use Rattle.terms.specs.Room.{Left, leftBy, Leaves}
 
 -- "Signature-record calls judge only the name."
 unfoldable pub recordFault : List ℕ → Scan → ℕ

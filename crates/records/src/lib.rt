@@ -7,9 +7,9 @@ ghost use lib.Seq.{sets};
 ghost use Rattle.trees.specs.Signature.{width};
 ghost use Rattle.bytes_read.specs.Bytes.{numberAt};
 ghost use Rattle.bytes_read.specs.Scans.{haltNumber};
-ghost use Rattle.checking.specs.Room.{frontWith};
+ghost use Rattle.terms.specs.Room.{frontWith};
 ghost use Rattle.records.specs.Records.{recordAt, recordFault, recordsEnd, recordsScan, numbersFrom, ReadPromise};
-use checking::Written;
+use terms::Written;
 
 // What the judging pass came to: the refusal's number, or 0, and how many records it passed.
 struct Judged {
@@ -25,21 +25,21 @@ fn record_fault(bytes: &[u8], count: u16) -> u16
     let at = 10 * (count as usize);
     let left = bytes.len() - at;
     if left < 2 {
-        return checking::CUT;
+        return terms::CUT;
     }
     if bytes_read::is_marked(bytes, at, 83, 69) {
         if left < 10 {
-            return checking::CUT;
+            return terms::CUT;
         }
         if bytes_read::number_at(bytes, at + 2) == 0 {
-            return checking::NAMELESS;
+            return terms::NAMELESS;
         }
         if 4096 <= count {
-            return checking::TOO_MANY;
+            return terms::TOO_MANY;
         }
         return 0;
     }
-    checking::UNKNOWN_MARK
+    terms::UNKNOWN_MARK
 }
 
 // Whether all records are read.
@@ -115,7 +115,7 @@ pub fn read_records(bytes: &[u8], room: &mut [u16]) -> Written
     }
     let size = judged.count as usize;
     if room.len() < 4 * size {
-        return bytes_read::refused(checking::NO_ROOM);
+        return bytes_read::refused(terms::NO_ROOM);
     }
     fill_numbers(bytes, size, room);
     Written::Length(4 * size)

@@ -12,16 +12,16 @@ use native.Mathlib.Omega.{arith}
 use lib.ListN.{length, getD}
 use Rattle.trees.specs.Tree.{none, Tree}
 use Rattle.trees.specs.Tags.{tagsOf, treeTags}
-use Rattle.checking.specs.declared.Kind.{Kind}
-use Rattle.checking.specs.declared.Refusal.{Refusal}
-use Rattle.checking.specs.declared.Verdict.{Verdict}
-use Rattle.checking.specs.declared.Written.{Written}
-use Rattle.checking.specs.Kinds.{most}
+use Rattle.terms.specs.declared.Kind.{Kind}
+use Rattle.terms.specs.declared.Refusal.{Refusal}
+use Rattle.terms.specs.declared.Verdict.{Verdict}
+use Rattle.terms.specs.declared.Written.{Written}
+use Rattle.terms.specs.Kinds.{most}
 use Rattle.checking.specs.Rule.{fresh}
-use Rattle.checking.specs.Stops.{Told, answered}
+use Rattle.terms.specs.Stops.{Told, answered}
 use Rattle.checking.specs.Turn.{turnOf}
 use Rattle.checking.specs.Whole.{wholeOf}
-use Rattle.checking.specs.Room.{frontWith}
+use Rattle.terms.specs.Room.{frontWith}
 use Rattle.checked.specs.Yields.{Words, Yields}
 use Rattle.checked.specs.Wholly.{yields-accepted, whole-exactly}
 use Rattle.checked.specs.Menus.{single, twoRoots}

@@ -11,14 +11,14 @@ use native.Mathlib.Omega.{arith}
 use native.Mathlib.Decide.{ℕ-discrete, decLe}
 use lib.ListN.{length}
 use borrow.Author.Tests.{ne-eqb}
-use Rattle.checking.specs.Kinds.{anyName, most}
-use Rattle.checking.specs.Stops.{Answered, answered, refusedAs}
+use Rattle.terms.specs.Kinds.{anyName, most}
+use Rattle.terms.specs.Stops.{Answered, answered, refusedAs}
 use Rattle.checking.specs.Whole.{wholeOf}
-use Rattle.checking.specs.declared.Kind.{Kind}
-use Rattle.checking.specs.declared.Refusal.{Refusal}
-use Rattle.checking.specs.declared.Written.{Written}
+use Rattle.terms.specs.declared.Kind.{Kind}
+use Rattle.terms.specs.declared.Refusal.{Refusal}
+use Rattle.terms.specs.declared.Written.{Written}
 use Rattle.bytes_read.specs.Scans.{haltNumber}
-use Rattle.checking.specs.Room.{Left, leftBy}
+use Rattle.terms.specs.Room.{Left, leftBy}
 use Rattle.bytes_read.proofs.Rooms.{short-is, written-is}
 use Rattle.records.specs.Records.{recordsScan, numbersFrom, bytesFrom, writeFault, ReadPromise, WritePromise}
 use Rattle.tag_lists.specs.declared.TreeRead.{TreeRead}

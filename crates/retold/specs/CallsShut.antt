@@ -12,15 +12,16 @@ use Rattle.turns.specs.Turn.{run}
 use Rattle.trees.specs.Signature.{cell}
 use Rattle.trees.specs.Tags.{tagsOf, opened, closed, rowsOf, oneTree, treeOf}
 use Rattle.checking.specs.Rule.{stepOf, closeOf, accepted, nameless, secondRoot, inRange}
-use Rattle.checking.specs.Stops.{Answered}
-use Rattle.checking.specs.Turn.{turnWithin, lengthFault}
-use Rattle.checking.specs.declared.Kind.{Kind}
-use Rattle.checking.specs.declared.Refusal.{Refusal}
-use Rattle.checking.specs.declared.Written.{Written}
+use Rattle.terms.specs.Stops.{Answered}
+use Rattle.checking.specs.Turn.{turnWithin}
+use Rattle.terms.specs.Length.{lengthFault}
+use Rattle.terms.specs.declared.Kind.{Kind}
+use Rattle.terms.specs.declared.Refusal.{Refusal}
+use Rattle.terms.specs.declared.Written.{Written}
 use Rattle.checked.specs.Menus.{single, singleRecord, singleTags}
 use Rattle.bytes_read.specs.Bytes.{marked}
 use Rattle.bytes_read.specs.Scans.{stepBy, haltNumber}
-use Rattle.checking.specs.Room.{Left, leftBy, roomFor, Leaves}
+use Rattle.terms.specs.Room.{Left, leftBy, roomFor, Leaves}
 use Rattle.records.specs.Records.{recordFault, recordsEnd, numbersFrom, bytesFrom, namelessFrom, writeFault, readLeft, writeLeft, ReadPromise, WritePromise}
 use Rattle.tag_lists.specs.declared.TreeRead.{TreeRead}
 use Rattle.tag_scan.specs.TagLists.{tagBytes, closedWith, namelessAt, misnested, tagFault, tagNext, treeEnd, treeScan, tagsFrom, numbersIn}

@@ -13,12 +13,12 @@ use lib.ListN.{length, drop}
 use lib.Seq.{drop-length}
 use Rattle.trees.specs.Signature.{signature}
 use Rattle.trees.specs.Tags.{treeTags}
-use Rattle.checking.specs.Kinds.{anyName, most}
-use Rattle.checking.specs.Stops.{Answered, answered}
-use Rattle.checking.specs.declared.Kind.{Kind}
-use Rattle.checking.specs.declared.Written.{Written}
+use Rattle.terms.specs.Kinds.{anyName, most}
+use Rattle.terms.specs.Stops.{Answered, answered}
+use Rattle.terms.specs.declared.Kind.{Kind}
+use Rattle.terms.specs.declared.Written.{Written}
 use Rattle.bytes_read.specs.Scans.{haltNumber}
-use Rattle.checking.specs.Room.{Left, leftBy, frontWith}
+use Rattle.terms.specs.Room.{Left, leftBy, frontWith}
 use Rattle.tag_scan.specs.TagLists.{tagBytes, treeScan, numbersIn}
 use Rattle.tag_lists.specs.Readers.{TagsPromise}
 use Rattle.retold.specs.Rooms.{Case, refused, short, written, which, fits-written, ten-given}

@@ -12,9 +12,9 @@ use lib.ListN.{length}
 use lib.Dec.{eqb, leb, ltb}
 use Rattle.turns.specs.Pick.{pick}
 use Rattle.trees.specs.Signature.{width, entries}
-use Rattle.checking.specs.declared.Kind.{Kind}
-use Rattle.checking.specs.Kinds.{most}
-use Rattle.checking.specs.Turn.{lengthFault}
+use Rattle.terms.specs.declared.Kind.{Kind}
+use Rattle.terms.specs.Kinds.{most}
+use Rattle.terms.specs.Length.{lengthFault}
 use Rattle.checked.specs.Refusals.{isIn, OneOf, one-not, one-among, length-numbers}
 use Rattle.bytes_read.specs.Bytes.{numberAt, marked}
 use Rattle.bytes_read.specs.Scans.{Scan, begin, firstFault, haltNumber}

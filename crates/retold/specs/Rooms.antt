@@ -9,12 +9,12 @@ use mathlib.Core.List.{List}
 use native.Mathlib.Omega.{arith}
 use native.Mathlib.Decide.{ℕ-discrete, decLe}
 use lib.ListN.{length}
-use Rattle.checking.specs.Stops.{Answered, answered, worked, refusedAs}
-use Rattle.checking.specs.declared.Refusal.{Refusal}
-use Rattle.checking.specs.declared.Written.{Written}
+use Rattle.terms.specs.Stops.{Answered, answered, worked, refusedAs}
+use Rattle.terms.specs.declared.Refusal.{Refusal}
+use Rattle.terms.specs.declared.Written.{Written}
 use Rattle.checked.specs.Apart.{answered-apart}
 use Rattle.tag_lists.specs.declared.TreeRead.{TreeRead}
-use Rattle.checking.specs.Room.{Left, leftBy, frontWith, Leaves}
+use Rattle.terms.specs.Room.{Left, leftBy, frontWith, Leaves}
 use Rattle.tag_lists.specs.Readers.{ReadTold, readTold, ReadLeft}
 use Rattle.bytes_read.proofs.Rooms.{refused-is, short-is, written-is}
 

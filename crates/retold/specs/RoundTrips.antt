@@ -15,18 +15,19 @@ use borrow.Author.Tests.{eqb-true, eqb-false}
 use Rattle.turns.specs.Pick.{pick}
 use Rattle.turns.specs.Turn.{Halt}
 use Rattle.trees.specs.Signature.{width}
-use Rattle.checking.specs.Kinds.{most}
+use Rattle.terms.specs.Kinds.{most}
 use Rattle.checking.specs.Rule.{fresh}
-use Rattle.checking.specs.Stops.{Answered, haltTold, verdictTold}
-use Rattle.checking.specs.Turn.{lengthFault, turnOf}
+use Rattle.terms.specs.Stops.{Answered, haltTold, verdictTold}
+use Rattle.checking.specs.Turn.{turnOf}
+use Rattle.terms.specs.Length.{lengthFault}
 use Rattle.checking.specs.Whole.{wholeOf}
-use Rattle.checking.specs.declared.Kind.{Kind}
-use Rattle.checking.specs.declared.Verdict.{Verdict}
-use Rattle.checking.specs.declared.Written.{Written}
-use Rattle.checking.proofs.Runs.{length-sized, length-fine}
+use Rattle.terms.specs.declared.Kind.{Kind}
+use Rattle.terms.specs.declared.Verdict.{Verdict}
+use Rattle.terms.specs.declared.Written.{Written}
+use Rattle.terms.proofs.Lengths.{length-sized, length-fine}
 use Rattle.checked.specs.Yields.{Words}
 use Rattle.checked.specs.Wholly.{whole-exactly}
-use Rattle.checking.specs.Room.{Left, frontWith}
+use Rattle.terms.specs.Room.{Left, frontWith}
 use Rattle.records.specs.Records.{recordsScan, numbersFrom, bytesFrom, namelessFrom, writeFault, ReadPromise, WritePromise}
 use Rattle.records.proofs.Faults.{write-fine}
 use Rattle.records.proofs.Filling.{numbers-length}

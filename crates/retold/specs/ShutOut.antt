@@ -12,13 +12,13 @@ use lib.ListN.{length, getD}
 use Rattle.trees.specs.Tree.{none, whole}
 use Rattle.trees.specs.Signature.{signature}
 use Rattle.trees.specs.Tags.{tagsOf}
-use Rattle.checking.specs.declared.Kind.{Kind}
-use Rattle.checking.specs.declared.Refusal.{Refusal}
-use Rattle.checking.specs.declared.Written.{Written}
-use Rattle.checking.specs.Kinds.{anyName, most}
+use Rattle.terms.specs.declared.Kind.{Kind}
+use Rattle.terms.specs.declared.Refusal.{Refusal}
+use Rattle.terms.specs.declared.Written.{Written}
+use Rattle.terms.specs.Kinds.{anyName, most}
 use Rattle.checked.specs.Menus.{singleTags}
 use Rattle.checked.specs.Apart.{answered-apart}
-use Rattle.checking.specs.Room.{Left, frontWith}
+use Rattle.terms.specs.Room.{Left, frontWith}
 use Rattle.tag_scan.specs.TagLists.{tagBytes}
 use Rattle.tag_lists.specs.Readers.{TagsPromise}
 use Rattle.tag_writing.proofs.Emit.{tag-bytes-length}

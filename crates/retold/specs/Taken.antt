@@ -7,8 +7,8 @@ use mathlib.Core.List.{List}
 use lib.ListN.{getD}
 use Rattle.trees.specs.Tree.{Tree, Grown}
 use Rattle.trees.specs.Tags.{treeTags}
-use Rattle.checking.specs.Kinds.{anyName, most}
-use Rattle.checking.specs.declared.Kind.{Kind}
+use Rattle.terms.specs.Kinds.{anyName, most}
+use Rattle.terms.specs.declared.Kind.{Kind}
 use Rattle.tag_scan.specs.TagLists.{tagBytes}
 
 -- "bytes"

@@ -9,14 +9,14 @@ use mathlib.Core.List.{List, _∷_}
 use native.Mathlib.Omega.{arith}
 use native.Mathlib.Decide.{ℕ-discrete}
 use lib.ListN.{length}
-use Rattle.checking.specs.Kinds.{anyName, most}
-use Rattle.checking.specs.Stops.{Answered, answered}
+use Rattle.terms.specs.Kinds.{anyName, most}
+use Rattle.terms.specs.Stops.{Answered, answered}
 use Rattle.checking.specs.Whole.{wholeOf}
 use Rattle.checked.specs.Refusals.{one-not, whole-not-ten}
-use Rattle.checking.specs.declared.Kind.{Kind}
-use Rattle.checking.specs.declared.Written.{Written}
+use Rattle.terms.specs.declared.Kind.{Kind}
+use Rattle.terms.specs.declared.Written.{Written}
 use Rattle.bytes_read.specs.Scans.{haltNumber}
-use Rattle.checking.specs.Room.{Left, leftBy}
+use Rattle.terms.specs.Room.{Left, leftBy}
 use Rattle.bytes_read.proofs.Rooms.{short-is}
 use Rattle.records.specs.Records.{recordsScan, numbersFrom, bytesFrom, writeFault, ReadPromise, WritePromise}
 use Rattle.tag_scan.specs.TagLists.{treeScan, numbersIn}

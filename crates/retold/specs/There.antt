@@ -10,13 +10,13 @@ use borrow.Author.Tests.{eq-eqb}
 use Rattle.trees.specs.Tree.{Tree}
 use Rattle.trees.specs.Signature.{signature}
 use Rattle.trees.specs.Tags.{treeTags}
-use Rattle.checking.specs.Stops.{Told}
+use Rattle.terms.specs.Stops.{Told}
 use Rattle.checking.specs.Whole.{wholeOf}
-use Rattle.checking.specs.declared.Kind.{Kind}
-use Rattle.checking.specs.declared.Written.{Written}
+use Rattle.terms.specs.declared.Kind.{Kind}
+use Rattle.terms.specs.declared.Written.{Written}
 use Rattle.checked.specs.Yields.{Yields}
 use Rattle.checked.specs.Wholly.{yields-accepted}
-use Rattle.checking.specs.Room.{leftBy, frontWith}
+use Rattle.terms.specs.Room.{leftBy, frontWith}
 use Rattle.tag_scan.specs.TagLists.{tagBytes}
 use Rattle.tag_lists.specs.Readers.{TagsPromise}
 use Rattle.tag_writing.specs.TagsBack.{backBytes, backLeft, BackPromise}

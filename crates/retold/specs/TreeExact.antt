@@ -15,11 +15,11 @@ use Rattle.turns.specs.Pick.{pick}
 use Rattle.trees.specs.Tree.{Tree, size, whole, Grown}
 use Rattle.trees.specs.Signature.{signature}
 use Rattle.trees.specs.Tags.{treeTags}
-use Rattle.checking.specs.Kinds.{anyName, most}
-use Rattle.checking.specs.Stops.{Answered}
-use Rattle.checking.specs.declared.Kind.{Kind}
+use Rattle.terms.specs.Kinds.{anyName, most}
+use Rattle.terms.specs.Stops.{Answered}
+use Rattle.terms.specs.declared.Kind.{Kind}
 use Rattle.bytes_read.specs.Scans.{haltNumber}
-use Rattle.checking.specs.Room.{Left, leftBy, frontWith}
+use Rattle.terms.specs.Room.{Left, leftBy, frontWith}
 use Rattle.bytes_read.proofs.Rooms.{short-is, written-is}
 use Rattle.tag_lists.specs.declared.TreeRead.{TreeRead}
 use Rattle.tag_scan.specs.TagLists.{tagBytes, treeScan, numbersIn}

@@ -1,6 +1,6 @@
 // Layer 5, searching: the p-th element, among the ranks of a range, whose name passes a test.
-use checking::PreRank;
 use marks::is_named;
+use terms::PreRank;
 ghost use Rattle.trees.specs.Signature.{entriesOf, width};
 ghost use Rattle.xpath.specs.Axes.{pth};
 ghost use Rattle.searching.specs.Only.{Only, namedAfter};

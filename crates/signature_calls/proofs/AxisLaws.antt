@@ -1,8 +1,8 @@
 -- Level, block and axes: what is said stands for what the call answers.
 use Prim.Native.Nat.{ℕ}
 use mathlib.Core.List.{List, [], _∷_}
-use Rattle.checking.specs.declared.Written.{Written}
-use Rattle.checking.specs.Stops.{answered}
+use Rattle.terms.specs.declared.Written.{Written}
+use Rattle.terms.specs.Stops.{answered}
 use Rattle.blocks.specs.declared.LevelAnswer.{LevelAnswer}
 use Rattle.blocks.specs.declared.PlaceAnswer.{PlaceAnswer}
 use Rattle.blocks.specs.Level.{Leveled, LevelPromise}

@@ -6,7 +6,7 @@ use mathlib.Core.List.{List}
 use Rattle.turns.specs.Turn.{Turned}
 use Rattle.checking.specs.declared.CheckState.{CheckState}
 use Rattle.checking.specs.Turn.{turnOf}
-use Rattle.checking.specs.Stops.{haltTold}
+use Rattle.terms.specs.Stops.{haltTold}
 use Rattle.telling.specs.Numbers.{kindOf, TurnTold}
 use Rattle.telling.specs.States.{checkStateOf, checkNumbers}
 

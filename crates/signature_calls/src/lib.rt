@@ -1,13 +1,13 @@
 // Layer 7, signature_calls: the calls on one signature, on bare numbers: the check, level, block and axes.
 ghost use Rattle.signature_calls.specs.Check.{CheckTurnPromise};
 ghost use Rattle.signature_calls.specs.Axes.{LevelNumbers, PlaceNumbers, AxisNumbers};
-use checking::PreRank;
 use telling::check_of;
 use telling::kind_of;
 use telling::tell_check;
 use telling::tell_level;
 use telling::tell_place;
 use telling::tell_written;
+use terms::PreRank;
 
 // A turn of the check on a lent state: next, top, closed. out: stop, steps, entry.
 pub fn check_turn(

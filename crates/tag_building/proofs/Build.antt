@@ -21,7 +21,7 @@ use Rattle.trees.specs.Tags.{Tag, opens, closes, tagsOf, treeTags, treeOf, Whol
 use Rattle.trees.specs.TagLaws.{tags-length, tags-read}
 use Rattle.trees.specs.Nesting.{nested-tree}
 use Rattle.bytes_read.specs.Bytes.{numberAt}
-use Rattle.checking.specs.Room.{frontWith}
+use Rattle.terms.specs.Room.{frontWith}
 use Rattle.tag_scan.specs.TagLists.{opening, tagsFrom, treeNumbers, numbersIn}
 use Rattle.tag_scan.proofs.TagsFrom.{tags-length-from, tags-open, tags-close, tags-none}
 use Rattle.tag_building.specs.Builds.{openRoom, lacks, closeRoom, parentIn}

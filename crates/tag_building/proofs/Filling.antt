@@ -13,10 +13,10 @@ use Rattle.turns.specs.Turn.{Turned}
 use Rattle.trees.specs.Tree.{whole}
 use Rattle.trees.specs.Listed.{signature-length}
 use Rattle.trees.specs.Tags.{WholeTags}
-use Rattle.checking.specs.Kinds.{anyName, most}
-use Rattle.checking.specs.declared.Kind.{Kind}
+use Rattle.terms.specs.Kinds.{anyName, most}
+use Rattle.terms.specs.declared.Kind.{Kind}
 use Rattle.bytes_read.specs.Scans.{Scan, haltNumber}
-use Rattle.checking.specs.Room.{Left, leftBy}
+use Rattle.terms.specs.Room.{Left, leftBy}
 use Rattle.bytes_read.proofs.Rooms.{refused-is}
 use Rattle.tag_scan.specs.TagLists.{treeScan, tagsFrom, numbersIn}
 use Rattle.tag_scan.proofs.Judging.{read-whole}

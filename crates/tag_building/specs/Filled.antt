@@ -7,10 +7,10 @@ use mathlib.Core.Bool.{Bool}
 use mathlib.Core.List.{List}
 use lib.ListN.{length}
 use Rattle.trees.specs.Signature.{width}
-use Rattle.checking.specs.Kinds.{anyName, most}
-use Rattle.checking.specs.declared.Kind.{Kind}
+use Rattle.terms.specs.Kinds.{anyName, most}
+use Rattle.terms.specs.declared.Kind.{Kind}
 use Rattle.bytes_read.specs.Scans.{haltNumber}
-use Rattle.checking.specs.Room.{leftBy, frontWith}
+use Rattle.terms.specs.Room.{leftBy, frontWith}
 use Rattle.tag_scan.specs.TagLists.{treeScan, numbersIn}
 
 -- what reading into the room comes to: the refusal's number, room included, or 0; the place that it came to, and the numbers of the elements that it

@@ -3,11 +3,11 @@ ghost use mathlib.Core.Path.{_≡_};
 ghost use Prim.Native.Nat.{_+_, _*_, _≤_};
 ghost use lib.ListN.{length, take};
 ghost use Rattle.trees.specs.Signature.{width};
-ghost use Rattle.checking.specs.Room.{leftBy};
+ghost use Rattle.terms.specs.Room.{leftBy};
 ghost use Rattle.bytes_read.specs.Bytes.{numberAt};
 ghost use Rattle.tag_building.specs.Filled.{FilledPromise, BuiltPromise};
 ghost use Rattle.tag_building.specs.Builds.{openRoom, closeRoom, parentIn};
-use checking::Kind;
+use terms::Kind;
 
 // What reading came to: the refusal's number, or 0, the place where it stands, and the elements read.
 pub struct Judged {
@@ -99,7 +99,7 @@ fn give_front(own: &[u16], len: usize, room: &mut [u16]) -> u16
     ensures { λ r. ⌜ (r ≡ leftBy 0 0 (take len (now (own .entry))) (now (room .entry)) .answer .number) × (now (room .exit) ≡ leftBy 0 0 (take len (now (own .entry))) (now (room .entry)) .room) ⌝ }
 {
     if room.len() < len {
-        return checking::NO_ROOM;
+        return terms::NO_ROOM;
     }
     let mut i: usize = 0;
     while i < len {

@@ -10,10 +10,10 @@ use native.Mathlib.Decide.{ℕ-discrete, decLe}
 use lib.ListN.{length}
 use lib.Dec.{eqb}
 use Rattle.turns.specs.Pick.{pick}
-use Rattle.checking.specs.Stops.{Answered, answered, worked, refusedAs}
-use Rattle.checking.specs.declared.Kind.{Kind}
-use Rattle.checking.specs.declared.Written.{Written}
-use Rattle.checking.specs.Room.{Left, leftBy}
+use Rattle.terms.specs.Stops.{Answered, answered, worked, refusedAs}
+use Rattle.terms.specs.declared.Kind.{Kind}
+use Rattle.terms.specs.declared.Written.{Written}
+use Rattle.terms.specs.Room.{Left, leftBy}
 use Rattle.bytes_read.proofs.Rooms.{refusedBy, refused-is, short-is, written-is}
 use Rattle.tag_building.specs.Filled.{Filled, FilledPromise}
 use Rattle.tag_lists.specs.declared.TreeRead.{TreeRead}

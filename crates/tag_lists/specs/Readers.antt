@@ -8,12 +8,12 @@ use mathlib.Core.Bool.{Bool, true, false}
 use mathlib.Core.List.{List}
 use lib.Dec.{eqb}
 use Rattle.turns.specs.Pick.{pick}
-use Rattle.checking.specs.Kinds.{anyName, most}
-use Rattle.checking.specs.Stops.{Answered, worked, refusedAs}
-use Rattle.checking.specs.declared.Kind.{Kind}
-use Rattle.checking.specs.declared.Written.{Written}
+use Rattle.terms.specs.Kinds.{anyName, most}
+use Rattle.terms.specs.Stops.{Answered, worked, refusedAs}
+use Rattle.terms.specs.declared.Kind.{Kind}
+use Rattle.terms.specs.declared.Written.{Written}
 use Rattle.bytes_read.specs.Scans.{haltNumber}
-use Rattle.checking.specs.Room.{Left, leftBy, Leaves}
+use Rattle.terms.specs.Room.{Left, leftBy, Leaves}
 use Rattle.tag_scan.specs.TagLists.{treeScan, numbersIn}
 use Rattle.tag_lists.specs.declared.TreeRead.{TreeRead}
 

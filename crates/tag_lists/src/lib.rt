@@ -1,11 +1,11 @@
 // Layer 3, tag_lists: tag lists read into signatures, for data trees and twigs.
 ghost use mathlib.Core.Path.{_≡_};
 ghost use Rattle.tag_lists.specs.Readers.{TagsPromise, TreePromise};
-use checking::Kind;
-use checking::PreRank;
-use checking::Refusal;
-use checking::Written;
 use tag_building::read_tags;
+use terms::Kind;
+use terms::PreRank;
+use terms::Refusal;
+use terms::Written;
 
 // What reading one tree from a place on answers: how many numbers it wrote and the place after the close of the root, or the refusal.
 pub enum TreeRead {

@@ -37,11 +37,11 @@ fn first_fault(nameless: bool, misnested: bool, over: bool) -> u16
     ensures { λ r. ⌜ r ≡ firstFault false false false «nameless» «misnested» «over» ⌝ }
 {
     if nameless {
-        checking::NAMELESS
+        terms::NAMELESS
     } else if misnested {
-        checking::BAD_NESTING
+        terms::BAD_NESTING
     } else if over {
-        checking::TOO_MANY
+        terms::TOO_MANY
     } else {
         0
     }
@@ -60,7 +60,7 @@ fn open_fault(bytes: &[u8], any_name: bool, most: u16, at: usize, depth: u16, co
     ensures { λ r. ⌜ r ≡ tagFault «any_name» most (now (bytes .entry)) (record { at = at; depth = depth; count = count }) ⌝ }
 {
     if bytes.len() - at < 4 {
-        return checking::CUT;
+        return terms::CUT;
     }
     let nameless = is_nameless(bytes, any_name, at);
     let misnested = is_root_closed(depth, count);
@@ -74,23 +74,23 @@ pub fn tag_fault(bytes: &[u8], any_name: bool, most: u16, at: usize, depth: u16,
 {
     if bytes.len() <= at {
         if 0 < count {
-            return checking::BAD_NESTING;
+            return terms::BAD_NESTING;
         }
-        return checking::CUT;
+        return terms::CUT;
     }
     if bytes.len() - at < 2 {
-        return checking::CUT;
+        return terms::CUT;
     }
     if bytes_read::is_marked(bytes, at, 79, 80) {
         return open_fault(bytes, any_name, most, at, depth, count);
     }
     if bytes_read::is_marked(bytes, at, 67, 76) {
         if depth == 0 {
-            return checking::BAD_NESTING;
+            return terms::BAD_NESTING;
         }
         return 0;
     }
-    checking::UNKNOWN_MARK
+    terms::UNKNOWN_MARK
 }
 
 // Whether a tree is read: to the end of the bytes where the whole of them is asked for.

@@ -11,15 +11,15 @@ use borrow.Author.Tests.{eq-eqb, ne-eqb}
 use Rattle.trees.specs.Tree.{Tree, size, whole}
 use Rattle.trees.specs.Signature.{signature}
 use Rattle.trees.specs.Listed.{signature-length}
-use Rattle.checking.specs.Stops.{Told, verdictTold, answered, refusedAs}
+use Rattle.terms.specs.Stops.{Told, verdictTold, answered, refusedAs}
 use Rattle.checking.specs.Whole.{wholeOf, WholePromise}
-use Rattle.checking.specs.declared.Kind.{Kind}
-use Rattle.checking.specs.declared.Refusal.{Refusal}
-use Rattle.checking.specs.declared.Verdict.{Verdict}
-use Rattle.checking.specs.declared.Written.{Written}
-use Rattle.checking.proofs.Runs.{most-small}
+use Rattle.terms.specs.declared.Kind.{Kind}
+use Rattle.terms.specs.declared.Refusal.{Refusal}
+use Rattle.terms.specs.declared.Verdict.{Verdict}
+use Rattle.terms.specs.declared.Written.{Written}
+use Rattle.terms.proofs.Lengths.{most-small}
 use Rattle.checked.specs.Wholly.{accepted-tree}
-use Rattle.checking.specs.Room.{Left, leftBy, Leaves}
+use Rattle.terms.specs.Room.{Left, leftBy, Leaves}
 use Rattle.tag_writing.specs.TagsBack.{backBytes, backLeft, BackPromise}
 
 pub signature-long : (s : List ℕ) (t : Tree) → s ≡ signature t → length s ≡ 4 * size (whole t)

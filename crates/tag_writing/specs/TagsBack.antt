@@ -13,9 +13,9 @@ use Rattle.trees.specs.Tree.{Forest, none, elem, Tree}
 use Rattle.trees.specs.Signature.{Entries, cell, entriesOf, width, entries}
 use Rattle.trees.specs.Tags.{treeTags}
 use Rattle.checking.specs.Whole.{wholeOf}
-use Rattle.checking.specs.declared.Kind.{Kind}
-use Rattle.checking.specs.declared.Written.{Written}
-use Rattle.checking.specs.Room.{Left, refusedLeft, leftBy, Leaves}
+use Rattle.terms.specs.declared.Kind.{Kind}
+use Rattle.terms.specs.declared.Written.{Written}
+use Rattle.terms.specs.Room.{Left, refusedLeft, leftBy, Leaves}
 use Rattle.tag_scan.specs.TagLists.{tagBytes}
 
 -- an entry's block is what is below it, and the row goes on where the block ends

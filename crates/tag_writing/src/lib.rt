@@ -7,12 +7,12 @@ ghost use lib.Seq.{sets};
 ghost use Rattle.trees.specs.Tree.{Tree, size, whole};
 ghost use Rattle.trees.specs.Signature.{signature};
 ghost use Rattle.bytes_read.specs.Bytes.{low, high};
-ghost use Rattle.checking.specs.Room.{frontWith, leftBy, Leaves};
+ghost use Rattle.terms.specs.Room.{frontWith, leftBy, Leaves};
 ghost use Rattle.tag_writing.specs.TagsBack.{backBytes, endsAt, BackPromise};
-use checking::Kind;
-use checking::PreRank;
-use checking::Verdict;
-use checking::Written;
+use terms::Kind;
+use terms::PreRank;
+use terms::Verdict;
+use terms::Written;
 
 // Writes an `OP` and a name at a place of the room.
 fn put_open(room: &mut [u8], at: usize, name: u16)
@@ -82,7 +82,7 @@ fn write_back(sig: &[u16], room: &mut [u8]) -> Written
 {
     let size = sig.len() / 4;
     if room.len() / 6 < size {
-        return bytes_read::refused(checking::NO_ROOM);
+        return bytes_read::refused(terms::NO_ROOM);
     }
     write_tags(sig, size as u16, room);
     Written::Length(6 * size)

@@ -10,9 +10,9 @@ use mathlib.Core.Path.{_≡_}
 use mathlib.Core.List.{List, [], _∷_}
 use lib.Dec.{eqb}
 use Rattle.turns.specs.Pick.{pick}
-use Rattle.checking.specs.declared.Kind.{Kind}
-use Rattle.checking.specs.Stops.{Told, Answered}
-use Rattle.checking.specs.Room.{Left}
+use Rattle.terms.specs.declared.Kind.{Kind}
+use Rattle.terms.specs.Stops.{Told, Answered}
+use Rattle.terms.specs.Room.{Left}
 
 -- 0 a data tree, any other number a twig
 abbrev pub kindOf : ℕ → Kind

@@ -4,7 +4,7 @@
 use Prim.Native.Nat.{ℕ}
 use mathlib.Core.Path.{_≡_, _∙_, sym}
 use mathlib.Core.List.{List}
-use Rattle.checking.specs.Room.{Left}
+use Rattle.terms.specs.Room.{Left}
 use Rattle.telling.specs.Numbers.{Says, LeftNumbers}
 
 pub one-said : (number : ℕ) (numbers : List ℕ) (r q : ℕ) (o p : List ℕ) → Says number numbers r o → Says number numbers q p → (r ≡ q) × (o ≡ p)

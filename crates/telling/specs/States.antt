@@ -10,7 +10,7 @@ use lib.ListN.{getD}
 use Rattle.checking.specs.declared.CheckState.{CheckState}
 use Rattle.checking.specs.declared.CheckTurn.{CheckTurn}
 use Rattle.checking.specs.Rule.{at}
-use Rattle.checking.specs.Stops.{told}
+use Rattle.terms.specs.Stops.{told}
 use Rattle.preparing.specs.declared.Prep.{Prep}
 use Rattle.preparing.specs.declared.PrepTurn.{PrepTurn}
 use Rattle.telling.specs.Numbers.{TurnTold}

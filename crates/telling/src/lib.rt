@@ -3,7 +3,7 @@
 ghost use mathlib.Core.Path.{_≡_};
 ghost use Prim.Native.Nat.{ℕ};
 ghost use lib.ListN.{getD};
-ghost use Rattle.checking.specs.Stops.{told, answered};
+ghost use Rattle.terms.specs.Stops.{told, answered};
 ghost use Rattle.preparing.specs.PrepTurn.{prepAt};
 ghost use Rattle.telling.specs.Numbers.{kindOf, TurnTold, AnswerTold};
 ghost use Rattle.telling.specs.Answers.{LevelSaid, PlaceSaid, StartSaid};
@@ -12,14 +12,14 @@ use blocks::LevelAnswer;
 use blocks::PlaceAnswer;
 use checking::CheckState;
 use checking::CheckTurn;
-use checking::Kind;
-use checking::PostRank;
-use checking::PreRank;
-use checking::Stop;
-use checking::Written;
 use preparing::Prep;
 use preparing::PrepTurn;
 use preparing::Started;
+use terms::Kind;
+use terms::PostRank;
+use terms::PreRank;
+use terms::Stop;
+use terms::Written;
 
 // The kind of tree that a number names: 0 a data tree, any other number a twig.
 pub fn kind_of(kind: u16) -> Kind

@@ -1,7 +1,7 @@
 // The lines of a text, the fields of a line and the numbers of a field.
 ghost use Prim.Native.Nat.{_≤_};
 ghost use lib.ListN.{length};
-use checking::Kind;
+use terms::Kind;
 
 // Where a mark first stands, or the end.
 fn mark_at(bytes: &[u8], mark: u8) -> usize

@@ -1,9 +1,9 @@
 // Printing: texts, numbers and what calls answer.
 use crate::fields::wide;
-use checking::Refusal;
-use checking::Stop;
-use checking::Written;
 use libc::STDOUT_FILENO;
+use terms::Refusal;
+use terms::Stop;
+use terms::Written;
 
 pub fn text(bytes: &[u8]) {
     io::write_all(STDOUT_FILENO, bytes);

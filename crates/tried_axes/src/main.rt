@@ -6,8 +6,8 @@
 // ends of what every axis answers, with the second number as position; `heading`, only the label.
 mod told_entries;
 
-use checking::Written;
 use libc::STDIN_FILENO;
+use terms::Written;
 use told_entries::entries_told;
 use trial_lines::field;
 use trial_lines::front;

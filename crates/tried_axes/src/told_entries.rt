@@ -1,7 +1,7 @@
 // The level, the place and the block of entries.
 use blocks::LevelAnswer;
 use blocks::PlaceAnswer;
-use checking::PreRank;
+use terms::PreRank;
 use trial_lines::number;
 use trial_lines::refused;
 use trial_lines::text;

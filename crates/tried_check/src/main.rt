@@ -4,10 +4,10 @@
 // whole check, `cut` a fresh turn and then the rest), the kind of tree, the budget, and next, top and closed of the state; and the signature.
 use checking::CheckState;
 use checking::CheckTurn;
-use checking::PostRank;
-use checking::PreRank;
-use checking::Verdict;
 use libc::STDIN_FILENO;
+use terms::PostRank;
+use terms::PreRank;
+use terms::Verdict;
 use trial_lines::field;
 use trial_lines::front;
 use trial_lines::kind_of;

@@ -9,12 +9,12 @@
 mod shown;
 mod whole;
 
-use checking::PreRank;
 use libc::STDIN_FILENO;
 use preparing::Prep;
 use shown::shown_prep;
 use shown::shown_walk;
 use shown::started;
+use terms::PreRank;
 use trial_lines::field;
 use trial_lines::front;
 use trial_lines::great;

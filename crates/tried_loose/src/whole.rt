@@ -1,10 +1,10 @@
 // Whole preparations and whole walks, in turns.
 use crate::shown::shown_walk;
-use checking::PreRank;
-use checking::Stop;
 use preparing::Prep;
 use preparing::Started;
 use std::num::wrapping_add_u64;
+use terms::PreRank;
+use terms::Stop;
 use trial_lines::number;
 use trial_lines::stop_number;
 use trial_lines::stopped;

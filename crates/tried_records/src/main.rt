@@ -6,13 +6,13 @@
 // or `records`, and of how many elements.
 mod lists;
 
-use checking::Kind;
-use checking::Written;
 use libc::STDIN_FILENO;
 use lists::bytes_into;
 use lists::front_bytes;
 use lists::octets;
 use tag_lists::TreeRead;
+use terms::Kind;
+use terms::Written;
 use trial_lines::field;
 use trial_lines::front;
 use trial_lines::kind_of;

@@ -1,8 +1,8 @@
 -- The ordered question: what is said and left stands for what the call answers.
 use Prim.Native.Nat.{ℕ}
 use mathlib.Core.List.{List}
-use Rattle.checking.specs.declared.Written.{Written}
-use Rattle.checking.specs.Stops.{answered}
+use Rattle.terms.specs.declared.Written.{Written}
+use Rattle.terms.specs.Stops.{answered}
 use Rattle.ordered.specs.Promise.{OrderedPromise}
 use Rattle.telling.specs.Numbers.{AnswerTold}
 use Rattle.telling.proofs.Laws.{answer-as}

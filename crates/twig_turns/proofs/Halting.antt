@@ -2,7 +2,7 @@
 use mathlib.Core.Path.{_≡_}
 use Prim.Native.Nat.{ℕ}
 use borrow.Author.Tests.{eq-eqb, ne-eqb}
-use Rattle.checking.specs.Stops.{haltTold}
+use Rattle.terms.specs.Stops.{haltTold}
 use Rattle.twig_turns.specs.Halts.{haltBy}
 
 module _ (x : ℕ) where

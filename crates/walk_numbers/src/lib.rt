@@ -1,8 +1,8 @@
 // Layer 6, walk_numbers: a saved walk as nineteen numbers: sixteen images, node, candidate, phase.
 ghost use mathlib.Core.Path.{_≡_};
 ghost use Rattle.walk_numbers.specs.Walk.{phaseOf, phaseNumber, walkOf, walkNumbers, keptOf, WalkSaid};
-use checking::PreRank;
 use telling::tell_stop;
+use terms::PreRank;
 use walk_ranges::Phase;
 use walking::Walk;
 use walking::WalkTurn;

@@ -24,12 +24,13 @@ use Rattle.trees.specs.NodeOrder.{before-pre}
 use Rattle.trees.specs.Signature.{cell}
 use Rattle.trees.specs.Order.{lt-or-ge}
 use Rattle.trees.specs.Names.{passes}
-use Rattle.checking.specs.declared.Kind.{Kind}
-use Rattle.checking.specs.declared.Refusal.{Refusal}
-use Rattle.checking.specs.declared.Written.{Written}
+use Rattle.terms.specs.declared.Kind.{Kind}
+use Rattle.terms.specs.declared.Refusal.{Refusal}
+use Rattle.terms.specs.declared.Written.{Written}
 use Rattle.checking.specs.Rule.{stepOf, closeOf, accepted, nameless, secondRoot, inRange}
-use Rattle.checking.specs.Turn.{turnWithin, lengthFault}
-use Rattle.checking.specs.Stops.{Answered, worked, refusedAs, answered}
+use Rattle.checking.specs.Turn.{turnWithin}
+use Rattle.terms.specs.Length.{lengthFault}
+use Rattle.terms.specs.Stops.{Answered, worked, refusedAs, answered}
 use Rattle.checked.specs.Yields.{Words, Yields}
 use Rattle.checked.specs.Accepted.{tree-of}
 use Rattle.checked.specs.Menus.{ten, twoRoots}
@@ -39,7 +40,7 @@ use Rattle.xpath.specs.Axes.{met, parentOf, ancestorOrSelf, wholeBefore, siblin
 use Rattle.xpath.specs.OnNodes.{InOrder, Lists, InUnion}
 use Rattle.xpath.specs.NodeLists.{lists-unique}
 use Rattle.blocks.specs.Checked.{afterCheck}
-use Rattle.checking.specs.Room.{roomFor}
+use Rattle.terms.specs.Room.{roomFor}
 use Rattle.marks.specs.Axis.{argumentsFine, axisWithin, AxisPromise}
 use Rattle.axes_told.specs.Xpath.{Answers, axis-is-xpath}
 use Rattle.axes_told.specs.OneResult.{refused-writes-nothing}

@@ -1,7 +1,7 @@
 -- A starred case: what the definitions that the promises cite come to, and what document 01 says, both as numbers.
 use Prim.Native.Nat.{ℕ}
 use mathlib.Core.List.{List, _∷_}
-use Rattle.checking.specs.Room.{Left}
+use Rattle.terms.specs.Room.{Left}
 
 -- got: the very definition that a call's promise cites, evaluated, with number, entry, steps, length and room; wanted: document 01's numbers
 pub record Case : Type 0 where

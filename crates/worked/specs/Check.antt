@@ -4,9 +4,9 @@ use Prim.Native.Nat.{ℕ}
 use mathlib.Core.List.{List, [], _∷_}
 use Rattle.turns.specs.Turn.{Turned}
 use Rattle.checking.specs.declared.CheckState.{CheckState}
-use Rattle.checking.specs.declared.Kind.{Kind}
+use Rattle.terms.specs.declared.Kind.{Kind}
 use Rattle.checking.specs.Rule.{fresh}
-use Rattle.checking.specs.Stops.{haltTold}
+use Rattle.terms.specs.Stops.{haltTold}
 use Rattle.checking.specs.Turn.{turnOf}
 use Rattle.worked.specs.Case.{Case}
 use Rattle.checked.specs.Menus.{ten, single, twoRoots, wrongPost, wrongFf}

@@ -8,13 +8,14 @@ use Rattle.turns.specs.Turn.{run, Steps}
 use Rattle.turns.specs.Chains.{one, more}
 use Rattle.trees.specs.Tree.{none, elem, Tree, Allowed}
 use Rattle.trees.specs.Signature.{cell, entriesOf, width}
-use Rattle.checking.specs.declared.Kind.{Kind}
+use Rattle.terms.specs.declared.Kind.{Kind}
 use Rattle.checking.specs.declared.CheckState.{CheckState}
 use Rattle.checking.specs.declared.CheckTurn.{CheckTurn}
-use Rattle.checking.specs.declared.Stop.{Stop}
-use Rattle.checking.specs.declared.Verdict.{Verdict}
+use Rattle.terms.specs.declared.Stop.{Stop}
+use Rattle.terms.specs.declared.Verdict.{Verdict}
 use Rattle.checking.specs.Rule.{fresh, Ranges, stepOf, closeOf, accepted, nameless, secondRoot, inRange}
-use Rattle.checking.specs.Turn.{TurnPromise, turnOf, turnWithin, lengthFault}
+use Rattle.checking.specs.Turn.{TurnPromise, turnOf, turnWithin}
+use Rattle.terms.specs.Length.{lengthFault}
 use Rattle.checking.specs.Whole.{WholePromise}
 use Rattle.checking.proofs.Cases.{fresh-ranges}
 use Rattle.checked.specs.Yields.{Words, Yields, Turns}

@@ -4,7 +4,7 @@ use Prim.Native.Nat.{ℕ, suc, _*_}
 use mathlib.Core.List.{List, [], _∷_, _++_}
 use lib.ListN.{length, replicate, take}
 use Rattle.trees.specs.Signature.{entries}
-use Rattle.checking.specs.declared.Kind.{Kind}
+use Rattle.terms.specs.declared.Kind.{Kind}
 use Rattle.checked.specs.Menus.{ten, five}
 use Rattle.records.specs.Records.{readLeft, writeLeft}
 use Rattle.tag_lists.specs.Readers.{tagsLeft}

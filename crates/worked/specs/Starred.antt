@@ -4,13 +4,14 @@ use mathlib.Core.List.{List, _++_, map, flatMap}
 use Rattle.turns.specs.Turn.{run}
 use Rattle.trees.specs.Names.{passes}
 use Rattle.checking.specs.Rule.{stepOf, closeOf, accepted, nameless, secondRoot, inRange}
-use Rattle.checking.specs.Turn.{turnWithin, lengthFault}
+use Rattle.checking.specs.Turn.{turnWithin}
+use Rattle.terms.specs.Length.{lengthFault}
 use Rattle.trees.specs.Signature.{cell}
 use Rattle.worked.specs.Case.{Case}
 use Rattle.xpath.specs.Select.{upTo, some, rises, within}
 use Rattle.xpath.specs.Axes.{met, parentOf, ancestorOrSelf, wholeBefore, siblingBefore, onAxis, chosen, pth, kept}
 use Rattle.blocks.specs.Checked.{afterCheck}
-use Rattle.checking.specs.Room.{roomFor, leftBy}
+use Rattle.terms.specs.Room.{roomFor, leftBy}
 use Rattle.marks.specs.Axis.{argumentsFine, axisWithin}
 use Rattle.trees.specs.Tags.{tagsOf, opened, closed, rowsOf, oneTree, treeOf}
 use Rattle.bytes_read.specs.Bytes.{marked}

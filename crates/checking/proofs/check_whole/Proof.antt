@@ -2,10 +2,10 @@
 use Prim.Native.Nat.{ℕ}
 use mathlib.Core.Path.{_≡_, sym, ap, _∙_}
 use mathlib.Core.Logic.{_⊎_, inl, inr}
-use Rattle.checking.specs.declared.Refusal.{Refusal}
-use Rattle.checking.specs.declared.Stop.{Stop}
-use Rattle.checking.specs.Kinds.{anyName, most}
-use Rattle.checking.specs.Stops.{told}
+use Rattle.terms.specs.declared.Refusal.{Refusal}
+use Rattle.terms.specs.declared.Stop.{Stop}
+use Rattle.terms.specs.Kinds.{anyName, most}
+use Rattle.terms.specs.Stops.{told}
 use Rattle.checking.proofs.Runs.{whole-stops, stop-accepted}
 use native.Mathlib.Omega.{arith}
 use borrow.Author.Needs.{needs}
@@ -19,7 +19,7 @@ enum-known-stop : tie.Need-enum-known-stop
 enum-known-stop c = search needs
 
 tag : Stop → ℕ
-tag = denote.Enum.Declared.tagOf (denote.Enum.Declared.declared Rattle.checking.proofs.Stop.enum)
+tag = denote.Enum.Declared.tagOf (denote.Enum.Declared.declared Rattle.terms.proofs.Stop.enum)
 
 -- a stop reason that has the number of another one is no refusal
 not-refused : (x : Stop) → (tag x ≡ 0) ⊎ (tag x ≡ 1) ⊎ (tag x ≡ 2) → (r : Refusal) → x ≡ Stop.Refused r → ⊥

@@ -1,6 +1,6 @@
 -- The writer's answer for the kind, told.
 use mathlib.Core.Path.{ap}
-use Rattle.checking.specs.declared.Kind.{Kind}
+use Rattle.terms.specs.declared.Kind.{Kind}
 use Rattle.tag_writing.specs.TagsBack.{backLeft}
 use Rattle.record_calls.proofs.Laws.{room-left}
 use borrow.Author.Needs.{needs}

@@ -1,6 +1,6 @@
 -- The reader's answer for the kind, told.
 use mathlib.Core.Path.{ap}
-use Rattle.checking.specs.declared.Kind.{Kind}
+use Rattle.terms.specs.declared.Kind.{Kind}
 use Rattle.tag_lists.specs.Readers.{tagsLeft}
 use Rattle.record_calls.proofs.Laws.{room-left}
 use borrow.Author.Needs.{needs}

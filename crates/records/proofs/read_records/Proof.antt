@@ -2,7 +2,7 @@
 use mathlib.Core.Path.{refl, ap, _∙_}
 use Prim.Native.Nat.{ℕ}
 use Rattle.bytes_read.specs.Scans.{Scan}
-use Rattle.checking.specs.Room.{frontWith}
+use Rattle.terms.specs.Room.{frontWith}
 use Rattle.records.specs.Records.{recordsScan, numbersFrom}
 use Rattle.records.proofs.Filling.{numbers-length}
 use Rattle.bytes_read.proofs.Rooms.{refused-with, short-with, written-with}

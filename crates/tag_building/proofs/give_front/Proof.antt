@@ -7,7 +7,7 @@ use mathlib.Core.Path.{_≡_, refl, ap, sym, _∙_}
 use mathlib.Core.List.{List, [], _∷_}
 use lib.ListN.{length, getD, take}
 use lib.Seq.{slice, slice-cons, slice-empty, length-take-le}
-use Rattle.checking.specs.Room.{Left}
+use Rattle.terms.specs.Room.{Left}
 use Rattle.bytes_read.proofs.Rooms.{short-is, written-is, Storing, storing-start, storing-more, storing-end}
 use Rattle.tag_building.proofs.give_front.Statement.{statement}
 use Rattle.tag_building.proofs.give_front.Tie as tie

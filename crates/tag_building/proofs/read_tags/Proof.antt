@@ -1,7 +1,7 @@
 -- The pass over the tags says which of the two cases it is: refused, or built, and then given where the room is long enough.
 use native.Mathlib.Omega.{arith}
 use borrow.Author.Needs.{needs}
-use Rattle.checking.proofs.Runs.{most-small}
+use Rattle.terms.proofs.Lengths.{most-small}
 use Rattle.tag_building.proofs.Filling.{filled-refused, filled-given}
 use Rattle.tag_building.proofs.read_tags.Statement.{statement}
 use Rattle.tag_building.proofs.read_tags.Tie as tie

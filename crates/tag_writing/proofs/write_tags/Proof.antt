@@ -6,7 +6,7 @@ use native.Mathlib.Nat.{sub-zero}
 use lib.ListN.{length}
 use native.Mathlib.Omega.{arith}
 use borrow.Author.Needs.{needs}
-use Rattle.checking.specs.Room.{frontWith}
+use Rattle.terms.specs.Room.{frontWith}
 use Rattle.bytes_read.proofs.Rooms.{storing-start, storing-end}
 use Rattle.tag_scan.specs.TagLists.{tagBytes}
 use Rattle.tag_writing.proofs.Emit.{Writes, emitTags, emit-closed, emit-opened, closed-fits, opened-fits, emit-bytes, emit-none, back-length}

@@ -1,5 +1,5 @@
 -- Each stop reason has its number, and a refusal its entry.
-use Rattle.checking.specs.declared.Stop.{Stop}
+use Rattle.terms.specs.declared.Stop.{Stop}
 use Rattle.telling.proofs.Laws.{stop-told}
 use borrow.Author.Needs.{needs}
 use Rattle.telling.proofs.tell_stop.Statement.{statement}

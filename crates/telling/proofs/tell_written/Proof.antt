@@ -1,5 +1,5 @@
 -- A length with no entry, or a refusal with length 0.
-use Rattle.checking.specs.declared.Written.{Written}
+use Rattle.terms.specs.declared.Written.{Written}
 use Rattle.telling.proofs.Laws.{written-told}
 use borrow.Author.Needs.{needs}
 use Rattle.telling.proofs.tell_written.Statement.{statement}

@@ -8,9 +8,9 @@
 --   answered w      those of the code's answer
 use Prim.Native.Nat.{ℕ}
 use Rattle.turns.specs.Turn.{Halt}
-use Rattle.checking.specs.declared.Stop.{Stop}
-use Rattle.checking.specs.declared.Verdict.{Verdict}
-use Rattle.checking.specs.declared.Written.{Written}
+use Rattle.terms.specs.declared.Stop.{Stop}
+use Rattle.terms.specs.declared.Verdict.{Verdict}
+use Rattle.terms.specs.declared.Written.{Written}
 
 -- which of the four: 0 an answer, 1 the end, 2 the budget, 3 a refusal; then the refusal's number and entry, or 0 and 0
 pub record Told : Type 0 where

@@ -11,8 +11,8 @@ use mathlib.Core.List.{List, _++_}
 use lib.ListN.{length, drop}
 use lib.Dec.{leb, eqb}
 use Rattle.turns.specs.Pick.{pick}
-use Rattle.checking.specs.Stops.{Answered, answered, worked, refusedAs}
-use Rattle.checking.specs.declared.Written.{Written}
+use Rattle.terms.specs.Stops.{Answered, answered, worked, refusedAs}
+use Rattle.terms.specs.declared.Written.{Written}
 
 -- what a call answers and leaves
 pub record Left : Type 0 where

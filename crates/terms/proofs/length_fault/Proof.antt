@@ -1,10 +1,10 @@
 -- Each return is one case of the length's rule, in its order.
-use Rattle.checking.proofs.Runs.{length-cut, length-whole, length-over, length-fine}
+use Rattle.terms.proofs.Lengths.{length-cut, length-whole, length-over, length-fine}
 use mathlib.Core.Path.{sym}
 use native.Mathlib.Omega.{arith}
 use borrow.Author.Needs.{needs}
-use Rattle.checking.proofs.length_fault.Statement.{statement}
-use Rattle.checking.proofs.length_fault.Tie as tie
+use Rattle.terms.proofs.length_fault.Statement.{statement}
+use Rattle.terms.proofs.length_fault.Tie as tie
 
 most-requires : tie.Need-most-requires
 most-requires c κs = search needs

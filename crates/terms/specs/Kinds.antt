@@ -3,7 +3,7 @@
 --   most k      the greatest number of elements
 use Prim.Native.Nat.{ℕ}
 use mathlib.Core.Bool.{Bool, true, false}
-use Rattle.checking.specs.declared.Kind.{Kind}
+use Rattle.terms.specs.declared.Kind.{Kind}
 
 -- "Code 0 stands for any name, in a twig or a name test only."
 abbrev pub anyName : Kind → Bool
