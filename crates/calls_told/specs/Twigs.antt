@@ -24,7 +24,7 @@ use Rattle.checking.specs.Rule.{closeOf, accepted, nameless, secondRoot, inRang
 use Rattle.checking.specs.Turn.{turnWithin}
 use Rattle.terms.specs.Length.{lengthFault}
 use Rattle.terms.specs.Stops.{haltTold, Told}
-use Rattle.terms.specs.Room.{Left, refusedLeft, roomFor}
+use Rattle.terms.specs.Room.{refusedLeft, roomFor}
 use Rattle.checking.specs.Whole.{wholeOf}
 use Rattle.checked.specs.Menus.{five, tarts, fork, pair}
 use Rattle.ordering.specs.Next.{ranks, tuples, placedTest, laterTest, answerTest, smallerTest, firstOf, nextAnswer}

@@ -2,17 +2,15 @@
 --   moves-ranges, moves-grow    steps keep the ranges, and each makes next + closed one more
 --   turn-…                      which case of a turn holds under which facts
 --   whole-stops                 the whole check ends or refuses
-use Prim.Native.Nat.{ℕ, _+_, _*_, _/_, _%_, _≤_, _<_}
+use Prim.Native.Nat.{ℕ, _+_, _*_, _/_, _≤_, _<_}
 use mathlib.Core.Path.{_≡_, refl, ap, sym}
 use mathlib.Core.Logic.{_⊎_, inl, inr}
 use mathlib.Core.List.{List}
-use mathlib.Core.Bool.{Bool, true, false, not, _||_, false≢true}
+use mathlib.Core.Bool.{Bool, true, false}
 use lib.ListN.{length}
-use lib.Dec.{leb, eqb}
 use native.Mathlib.Omega.{arith}
 use native.Mathlib.Decide.{ℕ-discrete}
-use borrow.Author.Tests.{le-leb, lt-leb, eq-eqb, ne-eqb, eqb-true, eqb-false, leb-true}
-use Rattle.turns.specs.Pick.{pick}
+use borrow.Author.Tests.{eq-eqb, ne-eqb}
 use Rattle.turns.specs.Turn.{Halt, Turned, Moves, stay, move, Outcome, ended, spent, faulty}
 use Rattle.turns.specs.Turn as Turns
 use Rattle.turns.specs.Laws.{turn-outcome}

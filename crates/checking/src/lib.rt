@@ -4,7 +4,6 @@ ghost use Prim.Native.Nat.{_+_, _*_, _-_, _<_};
 ghost use Rattle.terms.specs.Stops.{told};
 ghost use Rattle.checking.specs.Rule.{at, fresh};
 ghost use Rattle.checking.specs.Turn.{turnOf, TurnPromise};
-ghost use Rattle.terms.specs.Length.{lengthFault};
 ghost use Rattle.checking.specs.Whole.{wholeOf, WholePromise};
 ghost use Rattle.checking.specs.Plain.{toldAs, Reaches};
 

@@ -11,11 +11,11 @@ use mathlib.Core.Bool.{Bool, true, false, not, _&&_}
 use native.Mathlib.Omega.{arith}
 use lib.ListN.{length, getD, set, length-set}
 use lib.Seq.{getD-set-same, getD-set-other}
-use lib.Dec.{ltb, eqb}
+use lib.Dec.{eqb}
 use borrow.Author.Tests.{lt-ltb, le-ltb, eq-eqb, ne-eqb}
 use native.Mathlib.Decide.{ℕ-discrete}
 use Rattle.turns.specs.Pick.{pick}
-use Rattle.trees.specs.Signature.{Entries, entriesOf, width}
+use Rattle.trees.specs.Signature.{entriesOf, width}
 use Rattle.xpath.specs.Spread.{spreadOf, Seen, More, more-up, more-down, Greatest, Least, raisedTo, loweredTo, raised-greatest, lowered-least, spread-descendant, spread-following, spread-ancestor, spread-preceding, spread-child}
 use Rattle.xpath.specs.SpreadKids.{Kids, kids-hit, kids-miss, spread-parent, spread-later, spread-earlier}
 use Rattle.blocks.specs.Checked.{Ready}

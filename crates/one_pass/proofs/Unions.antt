@@ -5,19 +5,16 @@
 --   or-same-below, or-same-above   an axis or the contexts themselves
 --   union-marks       contexts, axis and names give the answer
 --   marks-written     the marked ranks written are the answer written
-use Prim.Native.Nat.{ℕ, _≤_, _<_}
+use Prim.Native.Nat.{ℕ, _≤_}
 use mathlib.Core.Path.{_≡_, refl, ap, _∙_, sym, subst}
 use mathlib.Core.List.{List}
 use mathlib.Core.Bool.{Bool, true, false, _&&_, _||_, and-false, or-true, or-false}
-use native.Mathlib.Omega.{arith}
-use lib.ListN.{length, getD}
-use Rattle.trees.specs.Signature.{entriesOf, width}
 use Rattle.trees.specs.Names.{passes}
 use Rattle.terms.specs.declared.Written.{Written}
 use Rattle.xpath.specs.Select.{upTo, within}
 use Rattle.xpath.specs.SelectLaws.{up-same}
 use Rattle.xpath.specs.Rising.{within-at}
-use Rattle.xpath.specs.Axes.{inAnswer, answerOf}
+use Rattle.xpath.specs.Axes.{inAnswer}
 use Rattle.xpath.specs.Spread.{isContext, spreadOf}
 use Rattle.xpath.specs.SpreadUnion.{spread-same, spread-self, spread-below-or-self, spread-above-or-self, spread-answer}
 use Rattle.terms.specs.Room.{roomFor, Leaves}

@@ -2,7 +2,7 @@
 --   Passing          what was asked at the start is what is still asked here, and the tags passed are built
 --   passing-…        it begins so, goes on so with each tag, and ends or refuses so
 use Prim.Native.Nat.{ℕ, _+_, _-_, _*_, _≤_}
-use mathlib.Core.Path.{_≡_, refl, ap, _∙_, sym}
+use mathlib.Core.Path.{_≡_, ap, _∙_, sym}
 use mathlib.Core.Bool.{Bool, true, false}
 use mathlib.Core.List.{List}
 use native.Mathlib.Omega.{arith}

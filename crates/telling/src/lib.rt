@@ -1,7 +1,6 @@
 // Layer 5, telling: the numbers of the C interface. What kind a number names and which state saved numbers stand for, and what a call answers or a
 // turn leaves, told in numbers: the refusal's number is returned, and out takes the others.
 ghost use mathlib.Core.Path.{_≡_};
-ghost use Prim.Native.Nat.{ℕ};
 ghost use lib.ListN.{getD};
 ghost use Rattle.terms.specs.Stops.{told, answered};
 ghost use Rattle.preparing.specs.PrepTurn.{prepAt};

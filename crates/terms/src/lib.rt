@@ -1,6 +1,5 @@
 // Layer 2, terms: what the later layers speak in: ranks, refusals, stop reasons, the two kinds of tree and the test of a signature's length.
 ghost use mathlib.Core.Path.{_≡_};
-ghost use mathlib.Core.Bool.{Bool};
 ghost use Rattle.trees.specs.Signature.{width};
 ghost use Rattle.terms.specs.Kinds.{anyName, most};
 ghost use Rattle.terms.specs.Length.{lengthFault};

@@ -2,10 +2,10 @@
 use native.Mathlib.Omega.{arith}
 use native.Mathlib.Numerals.{add-one}
 use borrow.Author.Needs.{needs}
-use Prim.Native.Nat.{ℕ, _+_, _-_, _≤_}
+use Prim.Native.Nat.{ℕ, _-_, _≤_}
 use mathlib.Core.Path.{_≡_, refl, ap, sym, _∙_}
-use mathlib.Core.List.{List, [], _∷_}
-use lib.ListN.{length, getD, take}
+use mathlib.Core.List.{[], _∷_}
+use lib.ListN.{getD, take}
 use lib.Seq.{slice, slice-cons, slice-empty, length-take-le}
 use Rattle.terms.specs.Room.{Left}
 use Rattle.bytes_read.proofs.Rooms.{short-is, written-is, Storing, storing-start, storing-more, storing-end}

@@ -1,7 +1,7 @@
 -- The two bytes that stand there, the second one 256 times.
 use native.Mathlib.Omega.{arith}
 use borrow.Author.Needs.{needs}
-use mathlib.Core.Path.{_≡_, refl, ap}
+use mathlib.Core.Path.{_≡_, ap}
 use Prim.Native.Nat.{ℕ, _+_, _*_}
 use lib.ListN.{getD}
 use Rattle.tag_building.proofs.name_at.Statement.{statement}

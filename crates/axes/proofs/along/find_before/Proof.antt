@@ -1,5 +1,5 @@
 -- The count is that of the chosen elements up to j, and less than p.
-use Prim.Native.Nat.{_+_, _-_, _≤_, _<_}
+use Prim.Native.Nat.{_-_, _≤_, _<_}
 use mathlib.Core.Path.{_≡_, refl}
 use mathlib.Core.Bool.{_&&_}
 use lib.ListN.{length}
