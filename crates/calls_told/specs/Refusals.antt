@@ -35,7 +35,7 @@ use Rattle.blocks.specs.Block.{Placed, blockPlace, placeRefused, placeWithin}
 use Rattle.marks.specs.Axis.{argumentsFine, answerIn, axisWithin}
 use Rattle.ordering.specs.Next.{nextAnswer}
 use Rattle.ordered_given.specs.Judged.{tupleFits}
-use Rattle.ordered.specs.Promise.{orderedOf}
+use Rattle.ordered_calls.specs.Exactly.{ordered-order}
 use Rattle.twig_turns.specs.Given.{tableWidth}
 use Rattle.preparing.specs.PrepTurn.{startFault, prepTurnOf, underway}
 use Rattle.walking.specs.WalkTurn.{walkTurnOf}
@@ -214,9 +214,8 @@ module _ (s contexts : List ℕ) (axis name p : ℕ) (room : List ℕ) where
 
 pub ordered-numbers : (s w g room : List ℕ) (r : ℕ) (after out : List ℕ) → OrderedNumbers s w g room r after out
     → OneOf (0 ∷ 1 ∷ 3 ∷ 4 ∷ 5 ∷ 6 ∷ 7 ∷ 8 ∷ 10 ∷ []) r
-unfolding orderedOf
 ordered-numbers s w g room r after out p =
-    rw (p .says .number-is)
+    rw (p .says .number-is, ordered-order s w g room)
     (by-check Kind.Twig w (λ (x : Left). OneOf answerGives (x .answer .number)) _
     (refusedLeft room (wholeOf Kind.Twig w .number) (wholeOf Kind.Twig w .entry))
     (by-check Kind.Data s (λ (x : Left). OneOf answerGives (x .answer .number)) _

@@ -31,7 +31,7 @@ use Rattle.checked.specs.Apart.{answered-apart}
 use Rattle.checked.specs.Wholly.{yields-accepted, whole-exactly, accepted-reason}
 use Rattle.ordered_given.specs.Judged.{allUpTo, tupleFits}
 use Rattle.ordered.specs.Promise.{orderedOf, OrderedPromise}
-use Rattle.ordered_calls.specs.Exactly.{Accepts, Meant, ordered-exactly, fault-tuple}
+use Rattle.ordered_calls.specs.Exactly.{Accepts, Meant, ordered-order, ordered-exactly, fault-tuple}
 
 -- what a call says and leaves
 pub record Done : Type 0 where
@@ -111,13 +111,11 @@ module _ (s w g room : List ℕ) (r : Written) (after : List ℕ) (p : OrderedPr
   refuses o = as-refused (p .told ∙ ap (λ (l : Left). l .answer) o, p .left ∙ ap (λ (l : Left). l .room) o)
 
   twig-not : eqb (wholeOf Kind.Twig w .reason) 1 ≡ false → orderedOf s w g room ≡ refusedLeft room (wholeOf Kind.Twig w .number) (wholeOf Kind.Twig w .entry)
-  unfolding orderedOf
-  twig-not q = simp q
+  twig-not q = ordered-order s w g room ∙ simp q
 
   data-not : Accepts Kind.Twig w → eqb (wholeOf Kind.Data s .reason) 1 ≡ false
       → orderedOf s w g room ≡ refusedLeft room (wholeOf Kind.Data s .number) (wholeOf Kind.Data s .entry)
-  unfolding orderedOf
-  data-not a q = simp (accepted-reason Kind.Twig w a, q)
+  data-not a q = ordered-order s w g room ∙ simp (accepted-reason Kind.Twig w a, q)
 
   promised-other : Words s → Words w → (Asked s w g → ⊥) → (why : Refusal) × (r ≡ Written.Refused why) × (after ≡ room)
   promised-other ws ww n = by-twig (accepts-or Kind.Twig w)

@@ -29,6 +29,7 @@ use Rattle.checked.specs.Refusals.{whole-not-ten}
 use Rattle.ordering.specs.Next.{ranks, tuples, placedTest, laterTest, answerTest, smallerTest, firstOf, nextAnswer}
 use Rattle.ordered_given.specs.Judged.{allUpTo, tupleFits}
 use Rattle.ordered.specs.Promise.{orderedOf, OrderedPromise}
+use Rattle.ordered_calls.specs.Exactly.{ordered-order}
 
 module _ (s w g room : List ℕ) where
   -- the smallest ordered answer greater than the tuple
@@ -42,10 +43,11 @@ module _ (s w g room : List ℕ) where
       × (length room < length (nextAnswer (entries s) (entriesOf width s) (entries w) (entriesOf width w) g))
 
   pub ordered-ten : (orderedOf s w g room .answer .number ≡ 10) ↔ OrderedTen
-  unfolding orderedOf roomFor
+  unfolding roomFor
   ordered-ten =
-      by (eqb (wholeOf Kind.Twig w .reason) 1) (eqb (wholeOf Kind.Data s .reason) 1) (tupleFits (entries s) (entries w) g)
-      (leb (length answer) (length room)) refl refl refl refl
+      rw (ordered-order s w g room)
+      (by (eqb (wholeOf Kind.Twig w .reason) 1) (eqb (wholeOf Kind.Data s .reason) 1) (tupleFits (entries s) (entries w) g)
+      (leb (length answer) (length room)) refl refl refl refl)
     where
       by : (a b c d : Bool) → eqb (wholeOf Kind.Twig w .reason) 1 ≡ a → eqb (wholeOf Kind.Data s .reason) 1 ≡ b
           → tupleFits (entries s) (entries w) g ≡ c → leb (length answer) (length room) ≡ d

@@ -24,7 +24,6 @@ use Rattle.tag_lists.specs.Readers.{TagsPromise}
 use Rattle.tag_writing.proofs.Emit.{tag-bytes-length}
 use Rattle.retold.specs.Taken.{Bytes, Taken}
 use Rattle.retold.specs.Rooms.{Case, refused, short, written, which, ten-given, refused-writes-nothing}
-use Rattle.retold.specs.Ends.{never-ten}
 use Rattle.retold.specs.Exact.{number, result, fine-taken, taken-fine, tags-signature}
 use Rattle.retold.specs.Numbers.{never-ten}
 

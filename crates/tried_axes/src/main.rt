@@ -1,4 +1,4 @@
-// Tries the axis, level and block calls at the edges that document 01 does not star, and prints what they say; what is printed is compared with the file stdout.
+// Layer 9, tried_axes: tries the axis, level and block calls at the edges that document 01 does not star, and prints what they say; what is printed is compared with the file stdout.
 // Ten and Five: a line for each axis, name and position has what each entry's own call answers, with a stroke after each. The other lines say their case.
 // The cases are the lines of the file stdin that have fields: the label; what is tried and its two numbers; the signature, the contexts, and what the room
 // holds before the call. Tried are: `call`, one call with this axis and position; `all`, every axis from every entry below the first number, with as many

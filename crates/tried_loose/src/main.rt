@@ -1,4 +1,4 @@
-// Tries preparing and walking at the edges that document 01 does not star, and prints what they say; what is printed is compared with the file stdout.
+// Layer 9, tried_loose: tries preparing and walking at the edges that document 01 does not star, and prints what they say; what is printed is compared with the file stdout.
 // A line has the case's name, what stopped the turn (0 an answer, 1 the end, 2 the budget, 3 a refusal), the refusal's number and entry, the steps,
 // and the state handed back: the next entry, or node, candidate, phase (0 walking, 1 at an answer, 2 ended) and the images.
 // The cases are the lines of the file stdin that have fields: the label; what is tried, the length of the table, and numbers; the signature, the twig, and what

@@ -1,4 +1,4 @@
-// Tries the ordered call at the edges that document 01 does not star, and prints what it says; what is printed is compared with the file stdout.
+// Layer 9, tried_ordered: tries the ordered call at the edges that document 01 does not star, and prints what it says; what is printed is compared with the file stdout.
 // An answer is a line of its ranks; `none` ends a list; a refusal is a line with its number and entry; a call's room is printed where it matters.
 // The cases are the lines of the file stdin that have fields: the label; what is tried (`answers` all of them, `pairs` every tuple of two numbers up to 6,
 // `call` one call); the signature, the twig, the tuple, and what the room holds before the call.

@@ -1,4 +1,4 @@
-// Tries the calls on signature records and tag lists at their edges, and prints what they say; what is printed is compared with the file stdout.
+// Layer 9, tried_records: tries the calls on signature records and tag lists at their edges, and prints what they say; what is printed is compared with the file stdout.
 // A line has the case, `length` and the result's length or `refused` with the number and the entry, and then what the room holds.
 // The cases are the lines of the file stdin that have fields: the label; what is tried; and the bytes that are read or the signature that is written. What is tried
 // has seven parts: `read` or `write`; `records`, the tag list of a tree of kind `data` or `twig`, or `one` tree from a place on; the length of the room; the
