@@ -139,6 +139,11 @@ static void axis_second(const Calls *with, int axis, Left *left)
     axis_of(with, inputs.menu, inputs.everyone, (size_t)inputs.n, axis, 2, left);
 }
 
+static void axis_hundredth(const Calls *with, int axis, Left *left)
+{
+    axis_of(with, inputs.menu, inputs.everyone, (size_t)inputs.n, axis, 100, left);
+}
+
 static void axis_second_broad(const Calls *with, int axis, Left *left)
 {
     axis_of(with, inputs.broad, inputs.everyone, (size_t)inputs.n, axis, 2, left);
@@ -261,6 +266,11 @@ const Row rows[] = {
     {"preceding, second, all contexts", "call", axis_second, IB_PRECEDING, 0},
     {"following-sibling, second, all contexts", "call", axis_second, IB_FOLLOWING_SIBLING, 0},
     {"preceding-sibling, second, all contexts", "call", axis_second, IB_PRECEDING_SIBLING, 0},
+    {"descendant, 100th, all contexts", "call", axis_hundredth, IB_DESCENDANT, 0},
+    {"following, 100th, all contexts", "call", axis_hundredth, IB_FOLLOWING, 0},
+    {"preceding, 100th, all contexts", "call", axis_hundredth, IB_PRECEDING, 0},
+    {"following-sibling, 100th, all contexts", "call", axis_hundredth, IB_FOLLOWING_SIBLING, 0},
+    {"preceding-sibling, 100th, all contexts", "call", axis_hundredth, IB_PRECEDING_SIBLING, 0},
     {"ancestor, second, wide tree", "call", axis_second_broad, IB_ANCESTOR, 1},
     {"ancestor-or-self, second, wide tree", "call", axis_second_broad, IB_ANCESTOR_OR_SELF, 0},
 };
