@@ -9,3 +9,4 @@ pub mod Starred
 pub mod Instances
 pub mod AxesShut
 pub mod BlocksShut
+pub mod RecordsUsed
