@@ -10,3 +10,4 @@ pub mod Instances
 pub mod AxesShut
 pub mod BlocksShut
 pub mod RecordsUsed
+pub mod CallsUsed
