@@ -11,3 +11,4 @@ pub mod AxesShut
 pub mod BlocksShut
 pub mod RecordsUsed
 pub mod CallsUsed
+pub mod LooseUsed
