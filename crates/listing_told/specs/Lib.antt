@@ -6,3 +6,4 @@ pub mod Told
 pub mod Cases
 pub mod Widths
 pub mod Fits
+pub mod Used
