@@ -58,8 +58,8 @@ pub fn tell_written(answer: Written, out: &mut [u64; 2]) -> u16
 {
     match answer {
         Written::Length(length) => {
-            let count = length as u64;
-            *out = [count, 0];
+            let written = length as u64;
+            *out = [written, 0];
             0
         }
         Written::Refused(refusal) => {
