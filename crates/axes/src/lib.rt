@@ -1,4 +1,6 @@
 // Layer 6, axes: the eleven axes with name test and position. Without a position they are taken in one pass; with one, each context is counted by itself.
+#![tactic(auto)]
+
 mod along;
 mod climb;
 

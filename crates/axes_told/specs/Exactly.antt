@@ -43,7 +43,7 @@ use Rattle.axes_told.specs.Xpath.{axis_is_xpath}
 -- the first of a strictly ascending list is below all that follow
 rises_above : {f : Forest} (c : ℕ) (xs : List (Node f)) → rises (c ∷ map pre xs) ≡ true → (y : Node f) → Memᴰ y xs → c < pre y
 unfolding rises
-rises_above c [] h y m = absurd (Memᴰ.not_nil m)
+rises_above c [] h y m = absurd (Memᴰ.not-nil m)
 rises_above c (z ∷ xs) h y m = go (ltb c (pre z)) refl h (λ q. rises_above (pre z) xs q y)
   where
     go : (b : Bool) → ltb c (pre z) ≡ b → (b && rises (pre z ∷ map pre xs)) ≡ true → (rises (pre z ∷ map pre xs) ≡ true → Memᴰ y xs → pre z < pre y) → c < pre y

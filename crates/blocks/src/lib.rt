@@ -1,4 +1,6 @@
 // Layer 4, blocks: the level of an entry, and its block.
+#![tactic(auto)]
+
 ghost use Rattle.std.specs.Prelude.{◌≡◌, ◌≤◌};
 ghost use Rattle.trees.specs.Signature.{entries_of, width, entries};
 ghost use Rattle.xpath.specs.Axes.{level_of};
@@ -11,14 +13,14 @@ use entries::entry_number;
 use terms::{BAD_ARGUMENT, Kind, PreRank, Refusal, Verdict};
 
 // The level of an entry, or why it is refused.
-#[derive(Drop)]
+#[derive(Clone, Copy)]
 pub enum LevelAnswer {
     Level(u16),
     Refused(Refusal),
 }
 
 // Where a block lies: the place of its first number, counted from 0, and how many numbers it has; or why it is refused.
-#[derive(Drop)]
+#[derive(Clone, Copy)]
 pub enum PlaceAnswer {
     Numbers(usize, usize),
     Refused(Refusal),
@@ -50,7 +52,7 @@ fn refusal(number: u16) -> Refusal
 
 // Whether i is a rank of n entries.
 fn is_rank(n: u16, i: u16) -> bool
-    ensures { «r» ≡ is_rank n i }
+    ensures { result ≡ is_rank n i }
 {
     if i < 1 {
         return false;

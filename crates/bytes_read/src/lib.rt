@@ -1,4 +1,6 @@
 // Layer 3, bytes_read: what the calls on records and tag lists share, that is marks and numbers in bytes and the answer of a refused call.
+#![tactic(auto)]
+
 ghost use Rattle.std.specs.Prelude.{◌≡◌, ◌+◌, get_or};
 ghost use Rattle.bytes_read.specs.Bytes.{number_at, marked};
 
@@ -35,7 +37,7 @@ pub fn number_at(bytes: &[u8], at: usize) -> u16
 
 // Whether a place has the mark of these two bytes.
 pub fn is_marked(bytes: &[u8], at: usize, first: u8, second: u8) -> bool
-    ensures { «r» ≡ marked bytes.now at first second }
+    ensures { result ≡ marked bytes.now at first second }
 {
     if byte_at(bytes, at) != first {
         return false;

@@ -1,4 +1,6 @@
 // Layer 6, calls_fits: a saved ordered question as three numbers: node, entry, stage.
+#![tactic(auto)]
+
 ghost use Rattle.std.specs.Prelude.{◌≡◌};
 ghost use Rattle.fits.specs.Stages.{stage_number};
 ghost use Rattle.calls_fits.specs.Fits.{stage_of, fit_state_of, fit_numbers, kept_of, FitSaid};

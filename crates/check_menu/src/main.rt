@@ -1,4 +1,6 @@
 // Layer 9, check_menu: checks a sample menu of ten elements in turns of seven steps, and tells a person what each turn came to.
+#![tactic(auto)]
+
 use checking::CheckState;
 use libc::STDOUT_FILENO;
 use terms::{Kind, Refusal, Stop};

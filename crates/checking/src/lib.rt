@@ -1,4 +1,6 @@
 // Layer 2, checking: the check of a signature, in turns and whole.
+#![tactic(auto)]
+
 ghost use Rattle.std.specs.Prelude.{◌≡◌, ◌+◌, ◌*◌, ◌-◌, ◌<◌};
 ghost use Rattle.terms.specs.Stops.{told};
 ghost use Rattle.checking.specs.Rule.{at, fresh};
@@ -12,7 +14,7 @@ use steps::{ENDED, REFUSED, Reached, SPENT, halted, run};
 use terms::{BAD_STATE, Kind, PostRank, PreRank, Refusal, Stop, Verdict, length_fault};
 
 // The saved state of a check: the next entry, the innermost open element, and the last rank given as elements close.
-#[derive(Drop)]
+#[derive(Clone, Copy)]
 pub struct CheckState {
     pub next: PreRank,
     pub top: PreRank,
@@ -20,7 +22,7 @@ pub struct CheckState {
 }
 
 // What a turn of the check hands back.
-#[derive(Drop)]
+#[derive(Clone, Copy)]
 pub struct CheckTurn {
     pub state: CheckState,
     pub steps: u64,

@@ -15,7 +15,7 @@ pub const SPENT: u16 = 2;
 pub const REFUSED: u16 = 3;
 
 // Where a turn came to: its state, the steps taken, what stopped it, and the refusal's number and entry, or 0 and 0.
-#[derive(Drop)]
+#[derive(Clone, Copy)]
 pub struct Reached {
     pub next: u16,
     pub top: u16,
@@ -57,7 +57,7 @@ fn entry_fault(sig: &[u16], n: u16, any_name: bool, i: u16) -> u16
 // Rule 2: whether entry i is opened.
 fn opens(sig: &[u16], n: u16, i: u16, top: u16) -> bool
     requires { (1 ≤ i) × (length sig.now ≡ width * n) }
-    ensures { «r» ≡ opened n (entries_of width sig.now) i top }
+    ensures { result ≡ opened n (entries_of width sig.now) i top }
 {
     if n < i {
         return false;

@@ -1,4 +1,6 @@
 // Layer 5, digits: lines of words and numbers, as text in a lent room. A room that is too short gets as much of it as it has room for.
+#![tactic(auto)]
+
 ghost use Rattle.std.specs.Prelude.{◌≡◌, List, [], ◌∷◌, ◌++◌, ℕ, ◌+◌, ◌<◌};
 ghost use Rattle.digits.specs.Page.{Prints};
 ghost use Rattle.digits.specs.Decimal.{decimal};

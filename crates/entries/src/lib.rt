@@ -1,4 +1,6 @@
 // Layer 2, entries: the numbers of an entry, for every caller and every rank.
+#![tactic(auto)]
+
 ghost use Rattle.std.specs.Prelude.{◌≡◌, get_or};
 ghost use Rattle.trees.specs.Signature.{cell, width};
 

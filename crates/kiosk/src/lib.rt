@@ -1,4 +1,6 @@
 // Layer 8, kiosk: the C interface. It gives the calls on bare numbers the names that C knows them by.
+#![tactic(auto)]
+
 ghost use Rattle.record_calls.specs.Records.{ReadNumbers, WriteNumbers, TagsNumbers, BackNumbers};
 ghost use Rattle.signature_calls.specs.Check.{CheckTurnPromise};
 ghost use Rattle.signature_calls.specs.Axes.{LevelNumbers, PlaceNumbers, AxisNumbers};
@@ -172,5 +174,5 @@ pub extern "C" fn ib_walk_turn(
     ensures { WalkTurnPromise sig.now twig.now table.now state.old budget result
         state.new out.new }
 {
-    twig_calls::walk_turn_law(sig, twig, table, state, budget, out)
+    twig_calls::walk_turn(sig, twig, table, state, budget, out)
 }

@@ -1,1 +1,2 @@
 // Layer 5, listed: no code. The theorems of preparing and walking stand in specs/.
+#![tactic(auto)]

@@ -1,6 +1,8 @@
 // Layer 9, listing: the listing program. It reads a data tag list and at once a twig tag list from standard input, and prints the loose answers. All that decides what is
 // printed stands in `lines`. One byte more than the longest input is read, so that a longer one is known; a read that fails counts as the end of the
 // input. The text has at most 800,025 bytes.
+#![tactic(auto)]
+
 ghost use Rattle.std.specs.Prelude.{◌≡◌, ◌+◌, length};
 ghost use Rattle.lines.specs.Listing.{most_bytes, text_room};
 

@@ -1,4 +1,6 @@
 // Layer 4, marks: what every axis call ends with. Its arguments are judged, and the ranks that have a mark are written.
+#![tactic(auto)]
+
 ghost use Rattle.std.specs.Prelude.{◌≡◌, true, ◌&&◌, ◌≤◌, length};
 ghost use Rattle.trees.specs.Names.{passes};
 ghost use Rattle.xpath.specs.Select.{up_to, rises, within};
@@ -13,7 +15,7 @@ use terms::{NO_ROOM, PreRank, Refusal, Written};
 
 // Whether the contexts are ranks of n entries, strictly ascending.
 fn is_ascending(n: u16, contexts: &[u16]) -> bool
-    ensures { «r» ≡ (within n contexts.now && rises contexts.now) }
+    ensures { result ≡ (within n contexts.now && rises contexts.now) }
 {
     let mut last: u16 = 0;
     let mut k = 0;
@@ -33,7 +35,7 @@ fn is_ascending(n: u16, contexts: &[u16]) -> bool
 
 // Whether an axis call has no argument that is refused.
 pub fn is_fine(n: u16, contexts: &[u16], axis: u16) -> bool
-    ensures { «r» ≡ arguments_fine axis n contexts.now }
+    ensures { result ≡ arguments_fine axis n contexts.now }
 {
     if 10 < axis {
         return false;
@@ -77,7 +79,7 @@ fn write_marks(n: u16, marks: &[u8; 4097], room: &mut [u16])
 
 // Whether the name of an entry passes a name test. Name 0 asks for any name.
 pub fn is_named(sig: &[u16], test: u16, rank: PreRank) -> bool
-    ensures { «r» ≡ passes test ((entries_of width sig.now).name rank.0) }
+    ensures { result ≡ passes test ((entries_of width sig.now).name rank.0) }
 {
     if test == 0 {
         return true;

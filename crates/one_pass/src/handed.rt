@@ -12,7 +12,7 @@ use terms::PreRank;
 // Whether there is a parent and it has a mark.
 fn is_marked_above(marks: &[u8; 4097], up: u16) -> bool
     requires { up ≤ 4096 }
-    ensures { «r» ≡ (not (eqb up 0) && marked marks.now up) }
+    ensures { result ≡ (not (eqb up 0) && marked marks.now up) }
 {
     if up == 0 {
         return false;

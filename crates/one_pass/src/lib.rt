@@ -1,5 +1,7 @@
 // Layer 5, one_pass: an axis of many contexts with no position, in a fixed number of passes over the entries. What a pass carries along is told in
 // `xpath/specs/Spread`.
+#![tactic(auto)]
+
 ghost use Rattle.std.specs.Prelude.{◌≡◌, true, false, ◌&&◌, ◌||◌, ◌≤◌, length};
 ghost use Rattle.trees.specs.Signature.{entries_of, width, entries};
 ghost use Rattle.trees.specs.Names.{passes};

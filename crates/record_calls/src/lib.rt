@@ -1,4 +1,6 @@
 // Layer 6, record_calls: the calls on signature records and tag lists, on bare numbers.
+#![tactic(auto)]
+
 ghost use Rattle.record_calls.specs.Records.{ReadNumbers, WriteNumbers, TagsNumbers, BackNumbers};
 
 use telling::{kind_of, tell_written};

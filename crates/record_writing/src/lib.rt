@@ -1,4 +1,6 @@
 // Layer 3, record_writing: signature records, written from signatures of data trees.
+#![tactic(auto)]
+
 ghost use Rattle.std.specs.Prelude.{◌≡◌, [], ◌+◌, ◌*◌, ◌≤◌, length};
 ghost use Rattle.std.proofs.lemmas.List.Edits.{sets};
 ghost use Rattle.trees.specs.Signature.{width};
@@ -27,7 +29,7 @@ fn put_record(room: &mut [u8], at: usize, name: u16, post: u16, ff: u16, fa: u16
 // Whether one of the first size entries has name 0.
 fn has_nameless(sig: &[u16], size: usize) -> bool
     requires { width * size ≤ length sig.now }
-    ensures { «r» ≡ nameless_from sig.now 0 size }
+    ensures { result ≡ nameless_from sig.now 0 size }
 {
     let mut i: usize = 0;
     while i < size {

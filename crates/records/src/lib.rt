@@ -1,4 +1,6 @@
 // Layer 3, records: signature records, read into signatures of data trees.
+#![tactic(auto)]
+
 ghost use Rattle.std.specs.Prelude.{◌≡◌, [], ◌∷◌, ◌+◌, ◌*◌, ◌≤◌, length};
 ghost use Rattle.std.proofs.lemmas.List.Edits.{sets};
 ghost use Rattle.trees.specs.Signature.{width};
@@ -10,7 +12,7 @@ ghost use Rattle.records.specs.Records.{record_at, record_fault, records_end, re
 use terms::Written;
 
 // What the judging pass came to: the refusal's number, or 0, and how many records it passed.
-#[derive(Drop)]
+#[derive(Clone, Copy)]
 struct Judged {
     fault: u16,
     count: u16,
@@ -43,7 +45,7 @@ fn record_fault(bytes: &[u8], count: u16) -> u16
 
 // Whether all records are read.
 fn is_records_end(bytes: &[u8], count: u16) -> bool
-    ensures { «r» ≡ records_end bytes.now (record_at count) }
+    ensures { result ≡ records_end bytes.now (record_at count) }
 {
     (10 * (count as usize) == bytes.len()) & (0 < count)
 }

@@ -1,4 +1,6 @@
 // Layer 5, searching: the p-th element, among the ranks of a range, whose name passes a test.
+#![tactic(auto)]
+
 ghost use Rattle.trees.specs.Signature.{entries_of, width};
 ghost use Rattle.xpath.specs.Axes.{pth};
 ghost use Rattle.searching.specs.Only.{Only, named_after};

@@ -1,4 +1,6 @@
 // Layer 7, signature_calls: the calls on one signature, on bare numbers: the check, level, block and axes.
+#![tactic(auto)]
+
 ghost use Rattle.signature_calls.specs.Check.{CheckTurnPromise};
 ghost use Rattle.signature_calls.specs.Axes.{LevelNumbers, PlaceNumbers, AxisNumbers};
 

@@ -1,4 +1,6 @@
 // Layer 3, tag_building: the tags of a list judged and built into a signature, which is given where the room is long enough.
+#![tactic(auto)]
+
 ghost use Rattle.std.specs.Prelude.{◌≡◌, ◌+◌, ◌*◌, ◌≤◌, length, take};
 ghost use Rattle.trees.specs.Signature.{width};
 ghost use Rattle.terms.specs.Room.{left_by};
@@ -9,7 +11,7 @@ ghost use Rattle.tag_building.specs.Builds.{open_room, close_room, parent_in};
 use terms::Kind;
 
 // What reading came to: the refusal's number, or 0, the place where it stands, and the elements read.
-#[derive(Drop)]
+#[derive(Clone, Copy)]
 pub struct Judged {
     pub fault: u16,
     pub at: usize,

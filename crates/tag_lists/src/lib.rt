@@ -1,4 +1,6 @@
 // Layer 3, tag_lists: tag lists read into signatures, for data trees and twigs.
+#![tactic(auto)]
+
 ghost use Rattle.std.specs.Prelude.{◌≡◌};
 ghost use Rattle.tag_lists.specs.Readers.{TagsPromise, TreePromise};
 
@@ -6,7 +8,7 @@ use tag_building::read_tags;
 use terms::{Kind, PreRank, Refusal, Written};
 
 // What reading one tree from a place on answers: how many numbers it wrote and the place after the close of the root, or the refusal.
-#[derive(Drop)]
+#[derive(Clone, Copy)]
 pub enum TreeRead {
     Tree(usize, usize),
     Refused(Refusal),

@@ -1,4 +1,6 @@
 // Layer 3, tag_scan: the tags of a list judged, one by one.
+#![tactic(auto)]
+
 ghost use Rattle.std.specs.Prelude.{◌≡◌, true, false, ◌+◌, ◌≤◌, length, leb};
 ghost use Rattle.bytes_read.specs.Scans.{first_fault};
 ghost use Rattle.tag_scan.specs.TagLists.{nameless_at, opening, closed_with, tag_fault, tree_end};
@@ -6,7 +8,7 @@ ghost use Rattle.tag_scan.specs.TagLists.{nameless_at, opening, closed_with, tag
 // Whether the element that opens at a place has name 0 where that is refused.
 fn is_nameless(bytes: &[u8], any_name: bool, at: usize) -> bool
     requires { at ≤ length bytes.now }
-    ensures { «r» ≡ nameless_at any_name bytes.now at }
+    ensures { result ≡ nameless_at any_name bytes.now at }
 {
     if any_name {
         return false;
@@ -20,7 +22,7 @@ fn is_nameless(bytes: &[u8], any_name: bool, at: usize) -> bool
 
 // Whether the root is closed.
 fn is_root_closed(depth: u16, count: u16) -> bool
-    ensures { «r» ≡ closed_with depth count }
+    ensures { result ≡ closed_with depth count }
 {
     if depth != 0 {
         return false;
@@ -45,7 +47,7 @@ fn first_fault(nameless: bool, misnested: bool, over: bool) -> u16
 
 // Whether so many elements are as many as there may be.
 fn is_full(most: u16, count: u16) -> bool
-    ensures { «r» ≡ leb most count }
+    ensures { result ≡ leb most count }
 {
     if most <= count { true } else { false }
 }
@@ -91,7 +93,7 @@ pub fn tag_fault(bytes: &[u8], any_name: bool, most: u16, at: usize, depth: u16,
 
 // Whether a tree is read: to the end of the bytes where the whole of them is asked for.
 pub fn is_tree_end(bytes: &[u8], whole: bool, at: usize, depth: u16, count: u16) -> bool
-    ensures { «r» ≡ tree_end «whole» bytes.now (record { at = at; depth = depth; count = count }) }
+    ensures { result ≡ tree_end «whole» bytes.now (record { at = at; depth = depth; count = count }) }
 {
     if is_root_closed(depth, count) {
         if whole {

@@ -1,4 +1,6 @@
 // Layer 3, tag_writing: signatures written back as tag lists, for data trees and twigs.
+#![tactic(auto)]
+
 ghost use Rattle.std.specs.Prelude.{◌≡◌, [], ◌∷◌, ◌+◌, ◌*◌, ◌≤◌, length};
 ghost use Rattle.std.proofs.lemmas.List.Edits.{sets};
 ghost use Rattle.trees.specs.Tree.{Tree, size, whole};
@@ -31,7 +33,7 @@ fn put_close(room: &mut [u8], at: usize)
 
 // Whether the innermost open element ends before the next entry.
 fn is_ending(sig: &[u16], next: u16, top: u16) -> bool
-    ensures { «r» ≡ ends_at sig.now next top }
+    ensures { result ≡ ends_at sig.now next top }
 {
     if top == 0 {
         return false;

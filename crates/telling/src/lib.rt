@@ -1,5 +1,7 @@
 // Layer 5, telling: the numbers of the C interface. What kind a number names and which state saved numbers stand for, and what a call answers or a
 // turn leaves, told in numbers: the refusal's number is returned, and out takes the others.
+#![tactic(auto)]
+
 ghost use Rattle.std.specs.Prelude.{◌≡◌, get_or};
 ghost use Rattle.terms.specs.Stops.{told, answered};
 ghost use Rattle.preparing.specs.PrepTurn.{prep_at};

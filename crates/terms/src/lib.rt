@@ -1,15 +1,17 @@
 // Layer 2, terms: what the later layers speak in: ranks, refusals, stop reasons, the two kinds of tree and the test of a signature's length.
+#![tactic(auto)]
+
 ghost use Rattle.std.specs.Prelude.{◌≡◌};
 ghost use Rattle.trees.specs.Signature.{width};
 ghost use Rattle.terms.specs.Kinds.{any_name, most};
 ghost use Rattle.terms.specs.Length.{length_fault};
 
 // A rank in the order in which elements open, counted from 1; 0 stands for none.
-#[derive(Drop)]
+#[derive(Clone, Copy)]
 pub struct PreRank(pub u16);
 
 // A rank in the order in which elements close, counted from 1; 0 stands for none.
-#[derive(Drop)]
+#[derive(Clone, Copy)]
 pub struct PostRank(pub u16);
 
 // Document 01's refusal numbers. They are constants and no enum, because later numbers must break no match.
@@ -38,14 +40,14 @@ pub const BAD_POINTER: u16 = 11;
 pub const BAD_NESTING: u16 = 12;
 
 // A refusal: its number, and the entry that it names, or 0.
-#[derive(Drop)]
+#[derive(Clone, Copy)]
 pub struct Refusal {
     pub number: u16,
     pub entry: PreRank,
 }
 
 // What stopped a turn.
-#[derive(Drop)]
+#[derive(Clone, Copy)]
 pub enum Stop {
     Answer,
     End,
@@ -54,21 +56,21 @@ pub enum Stop {
 }
 
 // The two kinds of tree: they differ in their greatest size and in whether name 0 is allowed.
-#[derive(Drop)]
+#[derive(Clone, Copy)]
 pub enum Kind {
     Data,
     Twig,
 }
 
 // What the whole check says of a signature.
-#[derive(Drop)]
+#[derive(Clone, Copy)]
 pub enum Verdict {
     Accepted,
     Refused(Refusal),
 }
 
 // What a single call that writes into lent room answers: how long the result is, in the room's units, or the refusal.
-#[derive(Drop)]
+#[derive(Clone, Copy)]
 pub enum Written {
     Length(usize),
     Refused(Refusal),
@@ -77,7 +79,7 @@ pub enum Written {
 impl Kind {
     // Whether name 0 is allowed.
     pub fn any_name(self) -> bool
-        ensures { «r» ≡ any_name self }
+        ensures { result ≡ any_name self }
     {
         match self {
             Kind::Data => false,

@@ -67,6 +67,7 @@ module _ (e : Entries) where
 pub top_root : (t : Tree) (y : Node (whole t)) → Top y → y ≡ here
 top_root t here p = refl
 top_root t (under y) p = absurd p
+top_root t (beside y) p = elim y [ ]
 
 pub first_past_unique : {f : Forest} (x : Node f) (k l : ℕ) → FirstPast x k → FirstPast x l → k ≡ l
 first_past_unique {f} x k l p q =

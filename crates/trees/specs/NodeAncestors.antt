@@ -131,7 +131,7 @@ below_ancestor (beside x) (beside y) h = ancestor_map beside (λ u v p. p) (belo
 
 pub ancestors_sound : {f : Forest} (x y : Node f) → Memᴰ x (ancestors y) → Below x y
 unfolding ancestors
-ancestors_sound x here m = absurd (Memᴰ.not_nil m)
+ancestors_sound x here m = absurd (Memᴰ.not-nil m)
 ancestors_sound x (under {after = r} y) m =
     ⊎_elim (λ (e : x ≡ here). rw e tt)
     (λ (n : Memᴰ x (map under (ancestors y))).

@@ -17,7 +17,7 @@ row_unique e none none i up c h k z = refl
 row_unique e none (elem a l r) i up c h k z = absurd (omega arith)
 row_unique e (elem a l r) none i up c h k z = absurd (omega arith)
 row_unique e (elem a l r) (elem b m q) i up c h k z =
-    let y : size l ≡ size m = omega (arith, h.0.PostIs, k.0.PostIs) in
+    let y : size l ≡ size m = omega (arith, h.0.post_is, k.0.post_is) in
     elem_eq (sym h.0.name_is ∙ k.0.name_is) (row_unique e l m (i + 1) i c h.1 k.1 y)
     (row_unique e r q (i + 1 + size l) up (c + size l + 1) h.2
     (subst (λ (x : ℕ). Holds e q (i + 1 + x) up (c + x + 1)) (sym y) k.2) (omega arith))

@@ -1,1 +1,2 @@
 // Layer 1, trees: no code. Definitions and laws stand in specs/.
+#![tactic(auto)]

@@ -4,6 +4,8 @@
 // holds before the call. Tried are: `call`, one call with this axis and position; `all`, every axis from every entry below the first number, with as many
 // pairs of a name and a position from 0 to 6 as the second says; `levels`, level and block of the ranks from the first number up to the second; `ends`, the
 // ends of what every axis answers, with the second number as position; `heading`, only the label.
+#![tactic(auto)]
+
 mod told_entries;
 
 use libc::STDIN_FILENO;

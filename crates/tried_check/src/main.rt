@@ -2,6 +2,8 @@
 // A line has the case's label, what stopped the turn (0 an answer, 1 the end, 2 the budget, 3 a refusal), the refusal's number and entry,
 // the steps, and the state handed back. The cases are the lines of the file stdin that have fields: the label; what is tried (`turn` one turn, `whole` the
 // whole check, `cut` a fresh turn and then the rest), the kind of tree, the budget, and next, top and closed of the state; and the signature.
+#![tactic(auto)]
+
 use checking::{CheckState, CheckTurn};
 use libc::STDIN_FILENO;
 use terms::{PostRank, PreRank, Verdict};

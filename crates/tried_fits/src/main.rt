@@ -7,6 +7,8 @@
 // turns of so many steps, begun anew for each of up to five budgets: the line has the budget, the last turn's stop and state, the steps of all turns and
 // how many turns there were; `cuts`, a whole question in two turns, for each number of steps that the first can take. The room of the last two has 65,536
 // numbers, just as many as sixteen nodes on 4,096 entries ask for.
+#![tactic(auto)]
+
 mod shown;
 mod whole;
 

@@ -6,6 +6,8 @@
 // so many entries in turns of so many steps; `walk`, a whole walk, by the kind of its budgets, the number of answers that is enough, and whether each is
 // printed; `Prepare`, one turn, by the next entry and the budget; `Walk`, one turn, by three images, node, candidate, phase and budget; `table`, nothing: the
 // table is printed.
+#![tactic(auto)]
+
 mod shown;
 mod whole;
 
@@ -41,7 +43,7 @@ fn phase_at(x: u16) -> Phase {
 }
 
 // A turn of walking from the walk of a case.
-fn walk_turn_law(v: [u16; 9], sig: &[u16], twig: &[u16], table: &[u16]) {
+fn walk_turn(v: [u16; 9], sig: &[u16], twig: &[u16], table: &[u16]) {
     let mut images = [0u16; 16];
     images[0] = v[2];
     images[1] = v[3];
@@ -81,7 +83,7 @@ fn tried(v: [u16; 9], sig: &[u16], twig: &[u16], table: &mut [u16]) {
         PREPARE => prepare(sig, twig, table, wide(v[2]), great(v[3])),
         WALK => walk(sig, twig, &*table, v[2], wide(v[3]), v[4] == 1),
         PREPARE_ONCE => prepare_turn(v, sig, twig, table),
-        WALK_ONCE => walk_turn_law(v, sig, twig, &*table),
+        WALK_ONCE => walk_turn(v, sig, twig, &*table),
         _ => tabled(&*table),
     }
 }

@@ -60,7 +60,7 @@ fn next_seed(seed: u64) -> u64 {
 }
 
 // What a whole walk came to: its answers, its steps, those since the last answer, and the most there were between two answers.
-#[derive(Drop)]
+#[derive(Clone, Copy)]
 struct Tally {
     answers: u64,
     sum: u64,
@@ -91,7 +91,7 @@ fn counted(tally: Tally, steps: u64, stop: u64) -> Tally {
 }
 
 // Whether a walk goes on after a stop: not after the end or a refusal, and not with enough answers.
-fn goes_on_law(stop: u64, answers: u64, enough: u64) -> bool {
+fn goes_on(stop: u64, answers: u64, enough: u64) -> bool {
     if stop == 2 {
         return true;
     }
@@ -128,7 +128,7 @@ pub fn walk(sig: &[u16], twig: &[u16], table: &[u16], kind: u16, enough: u64, pr
         state = turn.walk;
         tally = counted(tally, turn.steps, how);
         reported(turn, how, print);
-        if !goes_on_law(how, tally.answers, enough) {
+        if !goes_on(how, tally.answers, enough) {
             walked(tally, stop, limit(sig.len() / 4, twig.len() / 4));
             return;
         }

@@ -2,6 +2,8 @@
 // An answer is a line of its ranks; `none` ends a list; a refusal is a line with its number and entry; a call's room is printed where it matters.
 // The cases are the lines of the file stdin that have fields: the label; what is tried (`answers` all of them, `pairs` every tuple of two numbers up to 6,
 // `call` one call); the signature, the twig, the tuple, and what the room holds before the call.
+#![tactic(auto)]
+
 use libc::STDIN_FILENO;
 use terms::Written;
 use trial_lines::{
@@ -14,7 +16,7 @@ const PAIRS: u16 = 112;
 const CALL: u16 = 99;
 
 // An answer to hand back, or the end.
-#[derive(Drop)]
+#[derive(Clone, Copy)]
 struct Given {
     tuple: [u16; 16],
     more: bool,

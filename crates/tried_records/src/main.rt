@@ -4,6 +4,8 @@
 // has seven parts: `read` or `write`; `records`, the tag list of a tree of kind `data` or `twig`, or `one` tree from a place on; the length of the room; the
 // place; where the printing of the room begins (0 all of it is printed, 65,535 nothing); and, for bytes too many to be written down, what they are, `list` of tags
 // or `records`, and of how many elements.
+#![tactic(auto)]
+
 mod lists;
 
 use libc::STDIN_FILENO;

@@ -32,8 +32,8 @@ module _ (S : Type 0) (finished : S → Bool) (step : S → Next S) where
   pub moves_split : {k : ℕ} {st to : S} (b : ℕ) → b ≤ k → Moves S finished step k st to → Split b k st to
   moves_split {k = k} {st = st} {to = to} zero l m = record { mid = st; first = stay; rest = subst (λ (x : ℕ). Moves S finished step x st to) (omega arith) m }
   moves_split (suc b) l stay = absurd (not-suc-le-zero l)
-  moves_split {to = to} (suc b) l (move {k = k} h e m) =
-      let s = moves_split b (omega arith) m in
+  moves_split {k = suc k} {to = to} (suc b) l (move h e m) =
+      let s = moves_split {k = k} b (omega arith) m in
       record { mid = s.mid; first = move h e s.first; rest = subst (λ (x : ℕ). Moves S finished step x s.mid to) (omega arith) s.rest }
 
   -- a state from which a step was taken was not finished
@@ -80,12 +80,17 @@ module _ (S : Type 0) (finished : S → Bool) (step : S → Next S) where
     steps_on g (then s none) = progress _ _ g s
     steps_on g (then s (then r m)) = on_on _ _ _ (progress _ _ g s) (steps_on (kept _ _ s g) (then r m))
 
+    -- the same of two states that are equal
+    counts_same : {j k : ℕ} {a b c : S} → b ≡ c → Good a → Steps S finished step j a b → Steps S finished step k a c → j ≡ k
+    counts_same q g none none = refl
+    counts_same {a = a} q g none (then {k = k} s m) =
+        absurd (never _ (subst (λ (x : S). On a x) (sym q) (steps_on g (then s m))))
+    counts_same {a = a} q g (then s m) none = absurd (never _ (subst (λ (x : S). On a x) q (steps_on g (then s m))))
+    counts_same {c = c} q g (then s m) (then {k = k} r w) =
+        ap suc (counts_same q (kept _ _ s g) m (subst (λ (x : S). Steps S finished step k x c) (step_same r s) w))
+
     pub good_count_unique : {j k : ℕ} {a b : S} → Good a → Steps S finished step j a b → Steps S finished step k a b → j ≡ k
-    good_count_unique g none none = refl
-    good_count_unique g none (then s m) = absurd (never _ (steps_on g (then s m)))
-    good_count_unique g (then s m) none = absurd (never _ (steps_on g (then s m)))
-    good_count_unique {b = b} g (then s m) (then {k = k} r w) =
-        ap suc (good_count_unique (kept _ _ s g) m (subst (λ (x : S). Steps S finished step k x b) (step_same r s) w))
+    good_count_unique g m w = counts_same refl g m w
 
   -- the same where every state is good
   module _ (On : S → S → Type 0) (on_on : (a b c : S) → On a b → On b c → On a c) (never : (a : S) → On a a → ⊥)

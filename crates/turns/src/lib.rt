@@ -1,1 +1,2 @@
 // Layer 1, turns: no code. Its laws stand in specs/.
+#![tactic(auto)]

@@ -1,4 +1,6 @@
 // Layer 7, twig_calls: the calls on a signature and a twig, on bare numbers: the ordered question, whole and in turns, preparing and walking.
+#![tactic(auto)]
+
 ghost use Rattle.twig_calls.specs.Fits.{FitsTurnPromise};
 ghost use Rattle.twig_calls.specs.Ordered.{OrderedNumbers};
 ghost use Rattle.twig_calls.specs.Prepare.{StartNumbers, PrepareTurnPromise};
@@ -77,7 +79,7 @@ pub fn walk_fresh(state: &mut [u16; 19]) -> u16
 }
 
 // A turn of the walk on a lent state: sixteen images, node, candidate, phase. out: stop, steps, entry.
-pub fn walk_turn_law(
+pub fn walk_turn(
     sig: &[u16],
     twig: &[u16],
     table: &[u16],

@@ -1,4 +1,6 @@
 // Layer 6, walk_numbers: a saved walk as nineteen numbers: sixteen images, node, candidate, phase.
+#![tactic(auto)]
+
 ghost use Rattle.std.specs.Prelude.{◌≡◌};
 ghost use Rattle.walk_numbers.specs.Walk.{phase_of, phase_number, walk_of, walk_numbers, kept_of, WalkSaid};
 

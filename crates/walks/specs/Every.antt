@@ -29,7 +29,7 @@ module _ {A : Type 0} where
   every_weaken w (x ∷ l) h = (w x h.0, every_weaken w l h.1)
 
   pub every_member : (P : A → Type 0) (l : List A) → Every P l → {x : A} → Memᴰ x l → P x
-  every_member P [] h m = absurd (Memᴰ.not_nil m)
+  every_member P [] h m = absurd (Memᴰ.not-nil m)
   every_member P (y ∷ l) h (Memᴰ.head e) = subst P (sym e) h.0
   every_member P (y ∷ l) h (Memᴰ.tail m) = every_member P l h.1 m
 
@@ -53,8 +53,8 @@ module _ {A : Type 0} where
     pub pairs_unique : (l r : List A) → Pairs R l → Pairs R r → ((z : A) → Memᴰ z l → Memᴰ z r)
         → ((z : A) → Memᴰ z r → Memᴰ z l) → l ≡ r
     pairs_unique [] [] p q h k = refl
-    pairs_unique [] (y ∷ r) p q h k = absurd (Memᴰ.not_nil (k y (Memᴰ.head refl)))
-    pairs_unique (x ∷ l) [] p q h k = absurd (Memᴰ.not_nil (h x (Memᴰ.head refl)))
+    pairs_unique [] (y ∷ r) p q h k = absurd (Memᴰ.not-nil (k y (Memᴰ.head refl)))
+    pairs_unique (x ∷ l) [] p q h k = absurd (Memᴰ.not-nil (h x (Memᴰ.head refl)))
     pairs_unique (x ∷ l) (y ∷ r) p q h k =
         let e = heads (Memᴰ.cases_cons (h x (Memᴰ.head refl))) (Memᴰ.cases_cons (k y (Memᴰ.head refl))) in
         ap₂ (λ (a : A) (s : List A). a ∷ s) e
@@ -75,7 +75,7 @@ module _ {A B : Type 0} (f : A → List B) where
   -- what a list of lists joined has
   pub flat_member : (l : List A) {z : B} → Memᴰ z (flat_map f l) → (x : A) × Memᴰ x l × Memᴰ z (f x)
   unfolding flat_map
-  flat_member [] m = absurd (Memᴰ.not_nil m)
+  flat_member [] m = absurd (Memᴰ.not-nil m)
   flat_member (x ∷ l) {z} m = by (λ r. flat_member l r) (Memᴰ.append_cases (f x) m)
     where
       next : (y : A) × Memᴰ y l × Memᴰ z (f y) → (y : A) × Memᴰ y (x ∷ l) × Memᴰ z (f y)

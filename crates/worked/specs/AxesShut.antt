@@ -96,7 +96,7 @@ abbrev seven : Node (whole ten_tree)
 seven = under (beside here)
 
 one_order : (x : Node (whole ten_tree)) → InOrder (x ∷ [])
-one_order x = ((λ y m. absurd (Memᴰ.not_nil m)), tt)
+one_order x = ((λ y m. absurd (Memᴰ.not-nil m)), tt)
 
 child_promise : AxisPromise ten (map pre (two ∷ [])) 1 0 0 (99 ∷ 99 ∷ []) (Written.Length 2) (3 ∷ 6 ∷ [])
 unfolding pre run turn_within length_fault in_range step_of close_of nameless second_root accepted cell

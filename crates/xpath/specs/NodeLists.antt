@@ -25,7 +25,7 @@ module _ {f : Forest} where
   never_both x y a b = omega (arith, before_pre x y a, before_pre y x b)
 
   pub order_last : (l : List (Node f)) (z : Node f) → InOrder l → ((y : Node f) → Memᴰ y l → Before y z) → InOrder (l ++ (z ∷ []))
-  order_last [] z o h = ((λ y m. absurd (Memᴰ.not_nil m)), tt)
+  order_last [] z o h = ((λ y m. absurd (Memᴰ.not-nil m)), tt)
   order_last (x ∷ l) z o h = (
     (λ y m. ⊎_elim (λ (a : Memᴰ y l). o.0 y a)
         (λ (b : Memᴰ y (z ∷ [])). subst (λ (w : Node f). Before x w) (sym (Memᴰ.eq_of_singleton b)) (h x (Memᴰ.head refl)))
@@ -41,8 +41,8 @@ module _ {f : Forest} where
   pub order_unique : (l m : List (Node f)) → InOrder l → InOrder m → ((z : Node f) → Memᴰ z l → Memᴰ z m)
       → ((z : Node f) → Memᴰ z m → Memᴰ z l) → l ≡ m
   order_unique [] [] o q a b = refl
-  order_unique [] (y ∷ m) o q a b = absurd (Memᴰ.not_nil (b y (Memᴰ.head refl)))
-  order_unique (x ∷ l) [] o q a b = absurd (Memᴰ.not_nil (a x (Memᴰ.head refl)))
+  order_unique [] (y ∷ m) o q a b = absurd (Memᴰ.not-nil (b y (Memᴰ.head refl)))
+  order_unique (x ∷ l) [] o q a b = absurd (Memᴰ.not-nil (a x (Memᴰ.head refl)))
   order_unique (x ∷ l) (y ∷ m) o q a b =
       cons_eq same (order_unique l m o.1 q.1
       (λ z h. other x y same z (o.0 z h) (Memᴰ.cases_cons (a z (Memᴰ.tail h))))
@@ -77,7 +77,7 @@ module _ {f : Forest} where
   map_last (x ∷ l) z = ap (pre x ∷◌) (map_last l z)
 
   mem_left : (l : List (Node f)) (z y : Node f) → Memᴰ y l → Memᴰ y (l ++ (z ∷ []))
-  mem_left [] z y m = absurd (Memᴰ.not_nil m)
+  mem_left [] z y m = absurd (Memᴰ.not-nil m)
   mem_left (x ∷ l) z y m = ⊎_elim (λ (e : y ≡ x). Memᴰ.head e) (λ (r : Memᴰ y l). Memᴰ.tail (mem_left l z y r)) (Memᴰ.cases_cons m)
 
   mem_last : (l : List (Node f)) (z : Node f) → Memᴰ z (l ++ (z ∷ []))
@@ -91,7 +91,7 @@ module _ {f : Forest} where
     record {
       ranks = refl;
       order = tt;
-      sound = λ y m. absurd (Memᴰ.not_nil m);
+      sound = λ y m. absurd (Memᴰ.not-nil m);
       complete = λ y p l. absurd (omega (arith, pre_low y));
     },
   )

@@ -195,7 +195,7 @@ module _ (t : Tree) (e : Entries) (h : Holds e (whole t) 1 0 0) where
   pub union_says : (axis test p : ℕ) (xs : List (Node (whole t))) (y : Node (whole t))
       → Says (in_answer axis n e.fa e.name test p (map pre xs) (pre y)) (InUnion axis test p xs y)
   unfolding some
-  union_says axis test p [] y = record { says = λ z. absurd (false≢true z); holds = λ w. absurd (Memᴰ.not_nil w.1) }
+  union_says axis test p [] y = record { says = λ z. absurd (false≢true z); holds = λ w. absurd (Memᴰ.not-nil w.1) }
   union_says axis test p (x ∷ xs) y =
       says_as (says_or (kept_says axis (chosen axis n e.fa e.name test (pre x)) (Chosen axis test x) (chosen_says axis test x) p y) (union_says axis test p xs y)) there back
     where

@@ -1,0 +1,16 @@
+-- The place of the number lies within the list, because entry i ends where its numbers do.
+use Rattle.checking.proofs.Cases.{entry_ends}
+use native.Mathlib.Omega.{arith}
+use Rattle.checking.proofs.steps.number.Goals as goal
+
+pub overflow_mul-result : goal.overflow_mul-result
+overflow_mul-result c = omega (arith, entry_ends c.args.wide c.args.i c.requires.0)
+
+pub overflow_add-result : goal.overflow_add-result
+overflow_add-result c = omega (arith, entry_ends c.args.wide c.args.i c.requires.0)
+
+pub offset_bounds-sig-wide : goal.offset_bounds-sig-wide
+offset_bounds-sig-wide c = omega (arith, entry_ends c.args.wide c.args.i c.requires.0)
+
+pub bounds-sig-wide : goal.bounds-sig-wide
+bounds-sig-wide c = omega (arith, entry_ends c.args.wide c.args.i c.requires.0)

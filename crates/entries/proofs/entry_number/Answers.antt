@@ -1,0 +1,8 @@
+-- An entry's place is four numbers for each entry before it; rank 0 reads like rank 1.
+use mathlib.Core.Path.{◌∙◌}
+use Rattle.entries.proofs.Numbers.{number_first}
+use native.Mathlib.Omega.{arith}
+use Rattle.entries.proofs.entry_number.Goals as goal
+
+pub returns-then-rank-eq0 : goal.returns-then-rank-eq0
+returns-then-rank-eq0 c = c.number_or_zero.ensures ∙ number_first _ _ _ (omega arith)

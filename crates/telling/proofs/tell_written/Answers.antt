@@ -1,0 +1,10 @@
+-- A length with no entry, or a refusal with length 0.
+use Rattle.terms.specs.declared.Written.{Written}
+use Rattle.telling.proofs.Laws.{written_told}
+use Rattle.telling.proofs.tell_written.Goals as goal
+
+pub returns-in-Length : goal.returns-in-Length
+returns-in-Length c = written_told _ (Written.Length c.answer-1.given.0.0) c.answer-1.given.1
+
+pub returns-in-Refused : goal.returns-in-Refused
+returns-in-Refused c = written_told _ (Written.Refused c.answer-in-Refused-1.given.0.0) c.answer-in-Refused-1.given.1
