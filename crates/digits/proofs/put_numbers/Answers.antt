@@ -1,5 +1,4 @@
-use Prim.Native.Nat.{◌-◌, ◌≤◌}
-use mathlib.Core.Path.{◌≡◌, ◌∙◌}
+use mathlib.Core.Path.{◌∙◌}
 use Rattle.digits.proofs.Rows.{numbers_more, numbers_last, numbers_done}
 use native.Mathlib.Omega.{arith}
 use borrow.Author.Rules.{rules}
