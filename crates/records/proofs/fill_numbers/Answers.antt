@@ -1,6 +1,5 @@
 use native.Mathlib.Nat.{sub-zero}
 use mathlib.Core.Path.{ap}
-use Prim.Native.Nat.{◌≤◌, ◌-◌, ◌*◌}
 use Rattle.records.specs.Records.{numbers_from}
 use Rattle.records.proofs.Filling.{numbers_length, numbers_none, numbers_stored}
 use Rattle.bytes_read.proofs.Rooms.{storing_start, storing_end}

@@ -1,5 +1,4 @@
 use mathlib.Core.Path.{sym, ◌∙◌}
-use Prim.Native.Nat.{◌≤◌, ◌-◌, ◌*◌}
 use native.Mathlib.Omega.{arith}
 use Rattle.bytes_read.proofs.Scanning.{going_start, going_end, going_fault, going_next}
 use Rattle.records.proofs.Faults.{record_after, record_passed}
