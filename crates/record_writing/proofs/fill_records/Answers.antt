@@ -1,5 +1,4 @@
 use mathlib.Core.Path.{ap}
-use Prim.Native.Nat.{◌≤◌, ◌-◌, ◌*◌}
 use native.Mathlib.Nat.{sub-zero}
 use Rattle.records.specs.Records.{bytes_from}
 use Rattle.records.proofs.Filling.{bytes_stored, bytes_none, bytes_length}

@@ -1,5 +1,4 @@
-use mathlib.Core.Path.{◌≡◌, ap, sym, ◌∙◌}
-use Prim.Native.Nat.{◌≤◌, ◌-◌, ◌*◌}
+use mathlib.Core.Path.{ap, sym, ◌∙◌}
 use native.Mathlib.Nat.{sub-zero}
 use Rattle.records.specs.Records.{nameless_from}
 use Rattle.records.proofs.Filling.{nameless_here, nameless_later, nameless_none}
