@@ -1,3 +1,4 @@
+-- What is left of the records is stored behind what was; at the end all of them stand at the front of the room.
 use mathlib.Core.Path.{ap}
 use native.Mathlib.Nat.{sub-zero}
 use Rattle.records.specs.Records.{bytes_from}

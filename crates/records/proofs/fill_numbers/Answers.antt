@@ -1,3 +1,4 @@
+-- What is left of the numbers is stored behind what was; at the end all of them stand at the front of the room.
 use native.Mathlib.Nat.{sub-zero}
 use mathlib.Core.Path.{ap}
 use Rattle.records.specs.Records.{numbers_from}
