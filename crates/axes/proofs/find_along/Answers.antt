@@ -100,5 +100,5 @@ pub returns-in_default : goal.returns-in_default
 returns-in_default c =
     let a = c.args in
     let p = c.requires in
-    let r = c.in-0.rest in
+    let r = c.in_default.in_default-own.rest in
     arm_earlier a.n (entries_of width a.sig.now) p.0.facts a.axis a.test a.p p.2 a.c p.3 p.4 _ _ _ _ c.parent-up.ensures c.find_row-in_default.ensures (axis_last _ p.1 (((((r.0.0.0, p.5), p.6), r.0.0.1), r.0.1), r.1)) refl refl

@@ -89,4 +89,4 @@ pub returns-in-9 : goal.returns-in-9
 returns-in-9 c = axis_arm _ _ _ c.requires.2 _ _ _ 9 c.in-9.is c.mark_later.ensures
 
 pub returns-in_default : goal.returns-in_default
-returns-in_default c = axis_arm _ _ _ c.requires.2 _ _ _ 10 (axis_last _ c.requires.1 c.in_default.rest) c.mark_earlier.ensures
+returns-in_default c = axis_arm _ _ _ c.requires.2 _ _ _ 10 (axis_last _ c.requires.1 c.in_default.in_default-own.rest) c.mark_earlier.ensures
