@@ -17,7 +17,7 @@ find_above-requires-in-6 c =
 pub find_along-requires : goal.find_along-requires
 find_along-requires c =
     let p = c.requires in
-    (p.0, p.1, p.2, p.3, p.4, c.in_default.not-5, c.in_default.not-6)
+    (p.0, p.1, p.2, p.3, p.4, c.in_default.in_default-own.rest.0.1, c.in_default.in_default-own.rest.1)
 
 pub returns-in-5 : goal.returns-in-5
 returns-in-5 c =
