@@ -7,16 +7,16 @@ use native.Mathlib.Omega.{arith}
 use Rattle.blocks.proofs.block.Goals as goal
 
 pub returns-in_default : goal.returns-in_default
-returns-in_default c = part_none _ _ _ _ c.block_place-place.ensures c.enum_told-1.given.1
+returns-in_default c = part_none _ _ _ _ c.block_place-place.ensures c.in_default.is
 
 pub overflow_add-end : goal.overflow_add-end
-overflow_add-end c = omega (arith, part_inside _ _ _ _ _ c.block_place-place.ensures c.place-1.given.1)
+overflow_add-end c = omega (arith, part_inside _ _ _ _ _ c.block_place-place.ensures c.in-Numbers.is)
 
 pub offset_bounds-sig-first : goal.offset_bounds-sig-first
-offset_bounds-sig-first c = omega (arith, part_inside _ _ _ _ _ c.block_place-place.ensures c.place-1.given.1)
+offset_bounds-sig-first c = omega (arith, part_inside _ _ _ _ _ c.block_place-place.ensures c.in-Numbers.is)
 
 pub slice_bounds-result-end-2 : goal.slice_bounds-result-end-2
-slice_bounds-result-end-2 c = omega (arith, part_inside _ _ _ _ _ c.block_place-place.ensures c.place-1.given.1)
+slice_bounds-result-end-2 c = omega (arith, part_inside _ _ _ _ _ c.block_place-place.ensures c.in-Numbers.is)
 
 pub returns : goal.returns
 returns c =

@@ -4,10 +4,10 @@ use Rattle.tag_writing.proofs.Back.{accepted_back, back_written, back_refused}
 use Rattle.tag_writing.proofs.signature_to_tags.Goals as goal
 
 pub write_back-requires : goal.write_back-requires
-write_back-requires c = accepted_back c.args.kind _ _ c.check_whole-verdict.ensures c.enum_told-1.given.1
+write_back-requires c = accepted_back c.args.kind _ _ c.check_whole-verdict.ensures c.in-Accepted.is
 
 pub returns-in-Accepted : goal.returns-in-Accepted
-returns-in-Accepted c = back_written c.args.kind _ _ c.check_whole-verdict.ensures _ _ _ c.enum_told-1.given.1 c.write_back.ensures
+returns-in-Accepted c = back_written c.args.kind _ _ c.check_whole-verdict.ensures _ _ _ c.in-Accepted.is c.write_back.ensures
 
 pub returns-in-Refused : goal.returns-in-Refused
-returns-in-Refused c = back_refused c.args.kind _ _ c.check_whole-verdict.ensures _ _ _ c.verdict-1.given.1 refl
+returns-in-Refused c = back_refused c.args.kind _ _ c.check_whole-verdict.ensures _ _ _ c.in-Refused.is refl

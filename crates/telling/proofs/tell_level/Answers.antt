@@ -4,7 +4,7 @@ use Rattle.telling.proofs.Laws.{level_told_law}
 use Rattle.telling.proofs.tell_level.Goals as goal
 
 pub returns-in-Level : goal.returns-in-Level
-returns-in-Level c = level_told_law _ (LevelAnswer.Level c.answer-1.given.0.0) c.answer-1.given.1
+returns-in-Level c = level_told_law _ (LevelAnswer.Level c.in-Level.level) c.in-Level.is
 
 pub returns-in-Refused : goal.returns-in-Refused
-returns-in-Refused c = level_told_law _ (LevelAnswer.Refused c.answer-in-Refused-1.given.0.0) c.answer-in-Refused-1.given.1
+returns-in-Refused c = level_told_law _ (LevelAnswer.Refused c.in-Refused.refusal) c.in-Refused.is

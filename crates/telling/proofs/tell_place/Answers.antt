@@ -4,7 +4,7 @@ use Rattle.telling.proofs.Laws.{place_told_law}
 use Rattle.telling.proofs.tell_place.Goals as goal
 
 pub returns-in-Numbers : goal.returns-in-Numbers
-returns-in-Numbers c = place_told_law _ (PlaceAnswer.Numbers c.answer-1.given.0.0 c.answer-1.given.0.1.0) c.answer-1.given.1
+returns-in-Numbers c = place_told_law _ (PlaceAnswer.Numbers c.in-Numbers.first c.in-Numbers.count) c.in-Numbers.is
 
 pub returns-in-Refused : goal.returns-in-Refused
-returns-in-Refused c = place_told_law _ (PlaceAnswer.Refused c.answer-in-Refused-1.given.0.0) c.answer-in-Refused-1.given.1
+returns-in-Refused c = place_told_law _ (PlaceAnswer.Refused c.in-Refused.refusal) c.in-Refused.is

@@ -4,7 +4,7 @@ use Rattle.telling.proofs.Laws.{start_told_law}
 use Rattle.telling.proofs.tell_start.Goals as goal
 
 pub returns-in-Fresh : goal.returns-in-Fresh
-returns-in-Fresh c = start_told_law _ (Started.Fresh c.answer-1.given.0.0) c.answer-1.given.1
+returns-in-Fresh c = start_told_law _ (Started.Fresh c.in-Fresh.state) c.in-Fresh.is
 
 pub returns-in-Refused : goal.returns-in-Refused
-returns-in-Refused c = start_told_law _ (Started.Refused c.answer-in-Refused-1.given.0.0) c.answer-in-Refused-1.given.1
+returns-in-Refused c = start_told_law _ (Started.Refused c.in-Refused.refusal) c.in-Refused.is

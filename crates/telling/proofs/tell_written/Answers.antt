@@ -4,7 +4,7 @@ use Rattle.telling.proofs.Laws.{written_told}
 use Rattle.telling.proofs.tell_written.Goals as goal
 
 pub returns-in-Length : goal.returns-in-Length
-returns-in-Length c = written_told _ (Written.Length c.answer-1.given.0.0) c.answer-1.given.1
+returns-in-Length c = written_told _ (Written.Length c.in-Length.length) c.in-Length.is
 
 pub returns-in-Refused : goal.returns-in-Refused
-returns-in-Refused c = written_told _ (Written.Refused c.answer-in-Refused-1.given.0.0) c.answer-in-Refused-1.given.1
+returns-in-Refused c = written_told _ (Written.Refused c.in-Refused.refusal) c.in-Refused.is

@@ -1,6 +1,8 @@
 -- The place of the number lies within the list, because entry i ends where its numbers do.
+use Rattle.trees.specs.Signature.{cell}
 use Rattle.checking.proofs.Cases.{entry_ends}
 use native.Mathlib.Omega.{arith}
+use borrow.Author.Rules.{rules}
 use Rattle.checking.proofs.steps.number.Goals as goal
 
 pub overflow_mul-result : goal.overflow_mul-result
@@ -14,3 +16,7 @@ offset_bounds-sig-wide c = omega (arith, entry_ends c.args.wide c.args.i c.requi
 
 pub bounds-sig-wide : goal.bounds-sig-wide
 bounds-sig-wide c = omega (arith, entry_ends c.args.wide c.args.i c.requires.0)
+
+pub returns : goal.returns
+unfolding cell
+returns c = search rules

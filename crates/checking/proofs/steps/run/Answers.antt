@@ -7,8 +7,7 @@ use Rattle.checking.proofs.Plain.{moved_at, close_some, step_opens, step_shuts, 
 use Rattle.checking.proofs.Stopping.{reaches_as}
 use native.Mathlib.Nat.{sub-zero}
 use mathlib.Core.Path.{◌≡◌, sym, ◌∙◌}
-use mathlib.Core.Logic.{inl, inr}
-use Prim.Native.Nat.{◌≤◌, ◌-◌}
+use Rattle.checking.proofs.steps.run.Goals.{then-opens, else-opens+then-close_fault-eq0, else-loop-steps-test, then-loop-steps-test+then-entry_fault-ne0, then-loop-steps-test+else-entry_fault-ne0+else-opens+else-close_fault-eq0}
 use native.Mathlib.Omega.{arith}
 use Rattle.checking.proofs.steps.run.Goals as goal
 
@@ -27,17 +26,27 @@ loop-steps-preserved c =
     let o = c.opens in
     let q : step_of a.any_name a.n (entries_of width a.sig.now) (at l.i l.top l.closed) ≡ moved (at c.if-opens.i c.if-opens.top c.if-opens.closed) =
     elim c.if-opens.branch [
-      | inl w ↦ step_opens _ _ _ _ _ _ _ f.ensures z _ o.ensures w.0.taken ∙ moved_at w.1 w.2 w.3
-      | inr w ↦ step_shuts _ _ _ _ _ _ _ f.ensures z _ o.ensures w.0.left _ w.1.ensures w.2.taken
-          ∙ moved_at w.4 (w.5 ∙ w.3.ensures) w.6
+      | then-opens w ↦ step_opens _ _ _ _ _ _ _ f.ensures z _ o.ensures w.if-opens.true ∙ moved_at w.i-is w.top-is w.closed-is
+      | else-opens+then-close_fault-eq0 w ↦ step_shuts _ _ _ _ _ _ _ f.ensures z _ o.ensures w.if-opens.false _ w.close_fault.ensures w.if-close_fault-eq0.true
+          ∙ moved_at w.i-is (w.top-is ∙ w.number-top.ensures) w.closed-is
     ] in
     (omega arith, step_ranges _ _ _ _ _ l.invariant.1 q, l.invariant.2 ∙ run_counted _ _ _ _ _ (step_before _ _ _ _ _ q) _ _ (omega arith) q)
 
 pub stopped-requires : goal.stopped-requires
 stopped-requires c =
     let l = c.loop-steps in
-    let a = c in
-    (a.requires.0, a.requires.1, l.invariant.1, l.invariant.0, λ b. elim c.loop-steps-test.branch [ inl w ↦ absurd (omega arith) | inr (inl w) ↦ stuck_entry _ _ _ _ _ _ _ w.1.ensures w.2.taken | inr (inr w) ↦ stuck_close _ _ _ _ _ _ _ w.1.ensures w.2.left _ w.3.ensures w.4.left _ w.5.ensures w.6.left ])
+    let a = c in (
+      a.requires.0,
+      a.requires.1,
+      l.invariant.1,
+      l.invariant.0,
+      λ b. elim c.loop-steps-test.branch [
+        | else-loop-steps-test w ↦ absurd (omega arith)
+        | then-loop-steps-test+then-entry_fault-ne0 w ↦ stuck_entry _ _ _ _ _ _ _ w.entry_fault.ensures w.if-entry_fault-ne0.true
+        | then-loop-steps-test+else-entry_fault-ne0+else-opens+else-close_fault-eq0 w ↦
+            stuck_close _ _ _ _ _ _ _ w.entry_fault.ensures w.if-entry_fault-ne0.false _ w.opens.ensures w.if-opens.false _ w.close_fault.ensures w.if-close_fault-eq0.false
+      ],
+    )
 
 pub returns : goal.returns
 returns c = reaches_as _ _ _ c.loop-steps.invariant.2 c.stopped.ensures

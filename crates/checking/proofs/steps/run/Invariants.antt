@@ -2,7 +2,7 @@
 use Rattle.trees.specs.Signature.{entries_of, width}
 use Rattle.checking.specs.Rule.{Ranges, at}
 use Rattle.checking.specs.Plain.{rest_of}
-use mathlib.Core.Path.{◌≡◌, ◌∙◌}
+use mathlib.Core.Path.{◌≡◌}
 use Prim.Native.Nat.{◌≤◌, ◌-◌}
 use Rattle.checking.proofs.steps.run.Given as goal
 
