@@ -51,7 +51,7 @@ module _ (all any : Bool) (most : ℕ) (b : List ℕ) (bytes : Bytes b) where
           rw (tags_open b k st.at o.0.opens_here)
           (allowed st.at o.0.named, subst (λ (s : Scan). TagNames any (tags_from b k s.at)) o.1 ih)
       go (inr c) ih =
-          rw (tags_close b k st.at c.0.OpensNot) (subst (λ (s : Scan). TagNames any (tags_from b k s.at)) c.1 ih)
+          rw (tags_close b k st.at c.0.opens_not) (subst (λ (s : Scan). TagNames any (tags_from b k s.at)) c.1 ih)
 
   -- the record of an element that opens, and of one that closes
   open_bytes : (p : ℕ) (rest : List ℕ) → opening b p ≡ true → p + 4 ≤ length b → drop (p + 4) b ≡ rest
@@ -89,7 +89,7 @@ module _ (all any : Bool) (most : ℕ) (b : List ℕ) (bytes : Bytes b) where
       go (inr c) ih =
           close_bytes st.at _ c.0.closes_here c.0.mark
           (subst (λ (s : Scan). drop s.at b ≡ tag_bytes (tags_from b k s.at) ++ drop to.at b) c.1 ih)
-          ∙ ap (λ (l : List Tag). tag_bytes l ++ drop to.at b) (sym (tags_close b k st.at c.0.OpensNot))
+          ∙ ap (λ (l : List Tag). tag_bytes l ++ drop to.at b) (sym (tags_close b k st.at c.0.opens_not))
 
   -- what a scan that refused nothing has read
   pub record Read (p : ℕ) (to : Scan) : Type 0 where

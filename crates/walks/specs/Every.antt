@@ -86,7 +86,7 @@ module _ {A B : Type 0} (f : A → List B) where
       by ih (inl h) = (x, Memᴰ.head refl, h)
       by ih (inr h) = next (ih h)
 
-  pub flat_has : {l : List A} {x : A} {z : B} → Memᴰ x l → Memᴰ z (f x) → Memᴰ z (flat_map f l)
+  pub flat_has : {x : A} {l : List A} {z : B} → Memᴰ x l → Memᴰ z (f x) → Memᴰ z (flat_map f l)
   unfolding flat_map
   flat_has {z} (Memᴰ.head {xs = l} e) h = Memᴰ.append_left (flat_map f l) (subst (λ (y : A). Memᴰ z (f y)) e h)
   flat_has (Memᴰ.tail {x = y} m) h = Memᴰ.append_right (f y) (flat_has m h)

@@ -47,58 +47,58 @@ pub returns-in-0 : goal.returns-in-0
 returns-in-0 c =
     let a = c.args in
     let p = c.requires in
-    arm_self a.n (entries_of width a.sig.now) p.0.facts a.axis a.test a.p p.2 a.c p.3 p.4 _ _ _ c.find_named.ensures c.in-0.keys1 refl refl
+    arm_self a.n (entries_of width a.sig.now) p.0.facts a.axis a.test a.p p.2 a.c p.3 p.4 _ _ _ c.find_named.ensures c.in-0.is refl refl
 
 pub returns-in-1 : goal.returns-in-1
 returns-in-1 c =
     let a = c.args in
     let p = c.requires in
     let t = ap (λ (x : ℕ). x - 1) c.first_past-last.ensures in
-    arm_child a.n (entries_of width a.sig.now) p.0.facts a.axis a.test a.p p.2 a.c p.3 p.4 _ _ _ c.in-0.keys2 refl t c.find_row.ensures
+    arm_child a.n (entries_of width a.sig.now) p.0.facts a.axis a.test a.p p.2 a.c p.3 p.4 _ _ _ c.in-1.is refl t c.find_row.ensures
 
 pub returns-in-2 : goal.returns-in-2
 returns-in-2 c =
     let a = c.args in
     let p = c.requires in
     let t = ap (λ (x : ℕ). x - 1) c.first_past-last.ensures in
-    arm_descendant a.n (entries_of width a.sig.now) p.0.facts a.axis a.test a.p p.2 a.c p.3 p.4 _ _ _ c.find_named-in-2.ensures c.in-0.keys3 refl t
+    arm_descendant a.n (entries_of width a.sig.now) p.0.facts a.axis a.test a.p p.2 a.c p.3 p.4 _ _ _ c.find_named-in-2.ensures c.in-2.is refl t
 
 pub returns-in-3 : goal.returns-in-3
 returns-in-3 c =
     let a = c.args in
     let p = c.requires in
     let t = ap (λ (x : ℕ). x - 1) c.first_past-last.ensures in
-    arm_descendant_or_self a.n (entries_of width a.sig.now) p.0.facts a.axis a.test a.p p.2 a.c p.3 p.4 _ _ _ c.find_named-in-3.ensures c.in-0.keys4 refl t
+    arm_descendant_or_self a.n (entries_of width a.sig.now) p.0.facts a.axis a.test a.p p.2 a.c p.3 p.4 _ _ _ c.find_named-in-3.ensures c.in-3.is refl t
 
 pub returns-in-4 : goal.returns-in-4
 returns-in-4 c =
     let a = c.args in
     let p = c.requires in
     let u = c.parent-up.ensures in
-    arm_parent a.n (entries_of width a.sig.now) p.0.facts a.axis a.test a.p p.2 a.c p.3 p.4 _ _ _ c.find_named-in-4.ensures c.in-0.keys5 (less_is _ ∙ ap (λ (x : ℕ). x - 1) u) u
+    arm_parent a.n (entries_of width a.sig.now) p.0.facts a.axis a.test a.p p.2 a.c p.3 p.4 _ _ _ c.find_named-in-4.ensures c.in-4.is (less_is _ ∙ ap (λ (x : ℕ). x - 1) u) u
 
 pub returns-in-7 : goal.returns-in-7
 returns-in-7 c =
     let a = c.args in
     let p = c.requires in
     let t = ap (λ (x : ℕ). x - 1) c.first_past-last.ensures in
-    arm_following a.n (entries_of width a.sig.now) p.0.facts a.axis a.test a.p p.2 a.c p.3 p.4 _ _ _ c.find_named-in-7.ensures c.in-0.keys6 t refl
+    arm_following a.n (entries_of width a.sig.now) p.0.facts a.axis a.test a.p p.2 a.c p.3 p.4 _ _ _ c.find_named-in-7.ensures c.in-7.is t refl
 
 pub returns-in-8 : goal.returns-in-8
 returns-in-8 c =
     let a = c.args in
-    arm_preceding a.n (entries_of width a.sig.now) a.axis a.c a.test a.p _ c.in-0.keys7 c.find_before.ensures
+    arm_preceding a.n (entries_of width a.sig.now) a.axis a.c a.test a.p _ c.in-8.is c.find_before.ensures
 
 pub returns-in-9 : goal.returns-in-9
 returns-in-9 c =
     let a = c.args in
     let p = c.requires in
     let t = ap (λ (x : ℕ). x - 1) c.first_past-last.ensures in
-    arm_later a.n (entries_of width a.sig.now) p.0.facts a.axis a.test a.p p.2 a.c p.3 p.4 _ _ _ _ c.parent-up.ensures c.find_row-in-9.ensures c.in-0.keys8 t (ap (λ (x : ℕ). x - 1) c.first_past-row.ensures)
+    arm_later a.n (entries_of width a.sig.now) p.0.facts a.axis a.test a.p p.2 a.c p.3 p.4 _ _ _ _ c.parent-up.ensures c.find_row-in-9.ensures c.in-9.is t (ap (λ (x : ℕ). x - 1) c.first_past-row.ensures)
 
 pub returns-in_default : goal.returns-in_default
 returns-in_default c =
     let a = c.args in
     let p = c.requires in
-    let r = c.in-0.rest in
+    let r = c.in_default.in_default-own.rest in
     arm_earlier a.n (entries_of width a.sig.now) p.0.facts a.axis a.test a.p p.2 a.c p.3 p.4 _ _ _ _ c.parent-up.ensures c.find_row-in_default.ensures (axis_last _ p.1 (((((r.0.0.0, p.5), p.6), r.0.0.1), r.0.1), r.1)) refl refl

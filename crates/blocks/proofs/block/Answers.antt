@@ -20,7 +20,7 @@ slice_bounds-result-end-2 c = omega (arith, part_inside _ _ _ _ _ c.block_place-
 
 pub returns : goal.returns
 returns c =
-    let g = c.place-1.given in
-    let z : (g.0.0 + g.0.1.0) - g.0.0 ≡ g.0.1.0 = omega arith in
-    ap (λ (x : ℕ). take x (drop g.0.0 c.args.sig.now)) z
-    ∙ part_of _ _ _ _ _ c.block_place-place.ensures g.1
+    let g = c.in-Numbers in
+    let z : (g.first + g.count) - g.first ≡ g.count = omega arith in
+    ap (λ (x : ℕ). take x (drop g.first c.args.sig.now)) z
+    ∙ part_of _ _ _ _ _ c.block_place-place.ensures g.is

@@ -1,5 +1,5 @@
-use Prim.Native.Nat.{◌-◌, ◌≤◌}
-use mathlib.Core.Path.{◌≡◌, ◌∙◌}
+-- What is still to be printed are the numbers from number i on; printing these from here comes to the same as printing all from the start.
+use mathlib.Core.Path.{◌∙◌}
 use Rattle.digits.proofs.Rows.{numbers_more, numbers_last, numbers_done}
 use native.Mathlib.Omega.{arith}
 use borrow.Author.Rules.{rules}

@@ -1,6 +1,6 @@
 -- What is still to be printed are the numbers from number i on; printing these from here comes to the same as printing all from the start.
 use Prim.Native.Nat.{◌-◌, ◌≤◌}
-use mathlib.Core.Path.{◌≡◌, ◌∙◌}
+use mathlib.Core.Path.{◌≡◌}
 use lib.ListN.{length, drop}
 use Rattle.digits.specs.Page.{page, printed}
 use Rattle.digits.specs.Numbers.{numbers}

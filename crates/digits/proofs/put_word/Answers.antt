@@ -1,5 +1,5 @@
-use Prim.Native.Nat.{◌-◌, ◌≤◌}
-use mathlib.Core.Path.{◌≡◌, ◌∙◌}
+-- What is still to be printed is the word from byte i on; printing that from here comes to the same as printing the whole word from the start.
+use mathlib.Core.Path.{◌∙◌}
 use Rattle.digits.proofs.Pages.{print_on, print_done}
 use native.Mathlib.Omega.{arith}
 use borrow.Author.Rules.{rules}

@@ -1,6 +1,6 @@
 -- What is still to be printed is the word from byte i on; printing that from here comes to the same as printing the whole word from the start.
 use Prim.Native.Nat.{◌-◌, ◌≤◌}
-use mathlib.Core.Path.{◌≡◌, ◌∙◌}
+use mathlib.Core.Path.{◌≡◌}
 use lib.ListN.{length, drop}
 use Rattle.digits.specs.Page.{page, printed}
 use Rattle.digits.proofs.put_word.Given as goal

@@ -59,34 +59,34 @@ mark_earlier-requires c =
     (p.0, p.2.long)
 
 pub returns-in-0 : goal.returns-in-0
-returns-in-0 c = same_arm _ _ _ c.requires.2 _ _ _ c.in-0.keys1 c.mark_same.ensures
+returns-in-0 c = same_arm _ _ _ c.requires.2 _ _ _ c.in-0.is c.mark_same.ensures
 
 pub returns-in-1 : goal.returns-in-1
-returns-in-1 c = axis_arm _ _ _ c.requires.2 _ _ _ 1 c.in-0.keys2 c.mark_children.ensures
+returns-in-1 c = axis_arm _ _ _ c.requires.2 _ _ _ 1 c.in-1.is c.mark_children.ensures
 
 pub returns-in-2 : goal.returns-in-2
-returns-in-2 c = axis_arm _ _ _ c.requires.2 _ _ _ 2 c.in-0.keys3 c.mark_below.ensures
+returns-in-2 c = axis_arm _ _ _ c.requires.2 _ _ _ 2 c.in-2.is c.mark_below.ensures
 
 pub returns-in-3 : goal.returns-in-3
-returns-in-3 c = axis_arm _ _ _ c.requires.2 _ _ _ 3 c.in-0.keys4 c.mark_below_or_same.ensures
+returns-in-3 c = axis_arm _ _ _ c.requires.2 _ _ _ 3 c.in-3.is c.mark_below_or_same.ensures
 
 pub returns-in-4 : goal.returns-in-4
-returns-in-4 c = parents_arm _ _ _ _ _ c.in-0.keys5 c.mark_parents.ensures
+returns-in-4 c = parents_arm _ _ _ _ _ c.in-4.is c.mark_parents.ensures
 
 pub returns-in-5 : goal.returns-in-5
-returns-in-5 c = axis_arm _ _ _ c.requires.2 _ _ _ 5 c.in-0.keys6 c.mark_above.ensures
+returns-in-5 c = axis_arm _ _ _ c.requires.2 _ _ _ 5 c.in-5.is c.mark_above.ensures
 
 pub returns-in-6 : goal.returns-in-6
-returns-in-6 c = axis_arm _ _ _ c.requires.2 _ _ _ 6 c.in-0.keys7 c.mark_above_or_same.ensures
+returns-in-6 c = axis_arm _ _ _ c.requires.2 _ _ _ 6 c.in-6.is c.mark_above_or_same.ensures
 
 pub returns-in-7 : goal.returns-in-7
-returns-in-7 c = axis_arm _ _ _ c.requires.2 _ _ _ 7 c.in-0.keys8 c.mark_following.ensures
+returns-in-7 c = axis_arm _ _ _ c.requires.2 _ _ _ 7 c.in-7.is c.mark_following.ensures
 
 pub returns-in-8 : goal.returns-in-8
-returns-in-8 c = axis_arm _ _ _ c.requires.2 _ _ _ 8 c.in-0.keys9 c.mark_preceding.ensures
+returns-in-8 c = axis_arm _ _ _ c.requires.2 _ _ _ 8 c.in-8.is c.mark_preceding.ensures
 
 pub returns-in-9 : goal.returns-in-9
-returns-in-9 c = axis_arm _ _ _ c.requires.2 _ _ _ 9 c.in-0.keys10 c.mark_later.ensures
+returns-in-9 c = axis_arm _ _ _ c.requires.2 _ _ _ 9 c.in-9.is c.mark_later.ensures
 
 pub returns-in_default : goal.returns-in_default
-returns-in_default c = axis_arm _ _ _ c.requires.2 _ _ _ 10 (axis_last _ c.requires.1 c.in-0.rest) c.mark_earlier.ensures
+returns-in_default c = axis_arm _ _ _ c.requires.2 _ _ _ 10 (axis_last _ c.requires.1 c.in_default.in_default-own.rest) c.mark_earlier.ensures

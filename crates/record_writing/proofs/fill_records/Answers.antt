@@ -1,5 +1,5 @@
+-- What is left of the records is stored behind what was; at the end all of them stand at the front of the room.
 use mathlib.Core.Path.{ap}
-use Prim.Native.Nat.{◌≤◌, ◌-◌, ◌*◌}
 use native.Mathlib.Nat.{sub-zero}
 use Rattle.records.specs.Records.{bytes_from}
 use Rattle.records.proofs.Filling.{bytes_stored, bytes_none, bytes_length}

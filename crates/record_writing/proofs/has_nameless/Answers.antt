@@ -1,5 +1,5 @@
-use mathlib.Core.Path.{◌≡◌, ap, sym, ◌∙◌}
-use Prim.Native.Nat.{◌≤◌, ◌-◌, ◌*◌}
+-- Whether a name is 0 from the start on is whether one is from here on; the first one that is 0 settles it.
+use mathlib.Core.Path.{ap, sym, ◌∙◌}
 use native.Mathlib.Nat.{sub-zero}
 use Rattle.records.specs.Records.{nameless_from}
 use Rattle.records.proofs.Filling.{nameless_here, nameless_later, nameless_none}

@@ -1,5 +1,5 @@
 -- Whether a name is 0 from the start on is whether one is from here on; the first one that is 0 settles it.
-use mathlib.Core.Path.{◌≡◌, ◌∙◌}
+use mathlib.Core.Path.{◌≡◌}
 use Prim.Native.Nat.{◌≤◌, ◌-◌, ◌*◌}
 use Rattle.records.specs.Records.{nameless_from}
 use Rattle.record_writing.proofs.has_nameless.Given as goal

@@ -1,6 +1,6 @@
+-- What is left of the numbers is stored behind what was; at the end all of them stand at the front of the room.
 use native.Mathlib.Nat.{sub-zero}
 use mathlib.Core.Path.{ap}
-use Prim.Native.Nat.{◌≤◌, ◌-◌, ◌*◌}
 use Rattle.records.specs.Records.{numbers_from}
 use Rattle.records.proofs.Filling.{numbers_length, numbers_none, numbers_stored}
 use Rattle.bytes_read.proofs.Rooms.{storing_start, storing_end}

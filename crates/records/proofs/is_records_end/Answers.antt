@@ -1,5 +1,5 @@
 -- The test is the written one.
-use mathlib.Core.Path.{refl}
+use Rattle.std.proofs.Common.{refl}
 use Rattle.records.specs.Records.{records_end}
 use Rattle.records.proofs.is_records_end.Goals as goal
 

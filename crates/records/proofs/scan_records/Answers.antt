@@ -1,5 +1,5 @@
+-- What was asked at the start is what is still asked at each record; a record without a fault moves on by its ten bytes.
 use mathlib.Core.Path.{sym, ◌∙◌}
-use Prim.Native.Nat.{◌≤◌, ◌-◌, ◌*◌}
 use native.Mathlib.Omega.{arith}
 use Rattle.bytes_read.proofs.Scanning.{going_start, going_end, going_fault, going_next}
 use Rattle.records.proofs.Faults.{record_after, record_passed}

@@ -1,5 +1,4 @@
 -- What was asked at the start is what is still asked at each record; a record without a fault moves on by its ten bytes.
-use mathlib.Core.Path.{◌∙◌}
 use Prim.Native.Nat.{◌≤◌, ◌-◌, ◌*◌}
 use lib.ListN.{length}
 use Rattle.bytes_read.specs.Scans.{begin}

@@ -1,6 +1,7 @@
+-- What is left of the tags is stored behind what was: at the end the whole tag list of the tree stands at the front of the room.
 use mathlib.Core.Path.{ap, ◌∙◌}
 use mathlib.Core.List.{List}
-use Prim.Native.Nat.{ℕ, ◌*◌, ◌-◌, ◌+◌, ◌≤◌}
+use Prim.Native.Nat.{ℕ, ◌*◌, ◌-◌, ◌+◌}
 use native.Mathlib.Nat.{sub-zero}
 use lib.ListN.{length}
 use native.Mathlib.Omega.{arith}

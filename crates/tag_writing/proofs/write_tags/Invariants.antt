@@ -1,5 +1,4 @@
 -- What is left of the tags is stored behind what was: at the end the whole tag list of the tree stands at the front of the room.
-use mathlib.Core.Path.{◌∙◌}
 use Prim.Native.Nat.{◌*◌, ◌-◌, ◌+◌, ◌≤◌}
 use Rattle.tag_writing.proofs.Emit.{Writes}
 use Rattle.tag_writing.proofs.write_tags.Given as goal

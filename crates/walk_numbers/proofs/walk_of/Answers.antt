@@ -5,7 +5,7 @@ use native.Mathlib.Omega.{arith}
 use Rattle.walk_numbers.proofs.walk_of.Goals as goal
 
 pub returns-then-phase-gt2 : goal.returns-then-phase-gt2
-returns-then-phase-gt2 c = sym (walk_outside c.args.t1 (omega arith))
+returns-then-phase-gt2 c = sym (walk_outside c.args.l (omega arith))
 
 pub returns : goal.returns
-returns c = sym (walk_inside c.args.t1 c.phase_of-named.result (omega arith) c.phase_of-named.ensures)
+returns c = sym (walk_inside c.args.l c.phase_of-named.result (omega arith) c.phase_of-named.ensures)
