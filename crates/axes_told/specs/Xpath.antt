@@ -28,7 +28,7 @@ use Rattle.xpath.specs.Select.{up_to, rises, within}
 use Rattle.xpath.specs.Axes.{on_axis, in_answer, answer_of}
 use Rattle.xpath.specs.Axes as Axes
 use Rattle.xpath.specs.OnNodes.{InOrder, Lists, InUnion}
-use Rattle.xpath.specs.Says.{union_listed, axis_says}
+use Rattle.xpath.proofs.Says.{union_listed, axis_says}
 use Rattle.xpath.specs.NodeLists.{selected}
 use Rattle.blocks.specs.declared.LevelAnswer.{LevelAnswer}
 use Rattle.blocks.specs.declared.PlaceAnswer.{PlaceAnswer}

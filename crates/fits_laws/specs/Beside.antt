@@ -4,7 +4,6 @@
 --   fits_agrees    yes exactly if the ordered call gives an answer above zeros, no exactly if it gives none
 use Rattle.std.specs.Prelude.{ℕ, ◌≤◌, ◌≡◌, refl, ◌↔◌, List, length, replicate}
 use Rattle.std.proofs.Common.{ap, sym, ◌∙◌, arith}
-use Rattle.turns.specs.Turn.{turn}
 use Rattle.trees.specs.Signature.{entries_of, width, entries}
 use Rattle.walks.specs.Maps.{Lists}
 use Rattle.terms.specs.declared.Kind.{Kind}
@@ -14,14 +13,12 @@ use Rattle.terms.specs.Stops.{Answered, answered, worked}
 use Rattle.checked.specs.Apart.{answered_apart}
 use Rattle.checked.specs.Wholly.{accepted_tree}
 use Rattle.twig_turns.specs.Grounds.{Accepted, accepted_grounds}
-use Rattle.ordering.specs.Answer.{Answer}
 use Rattle.ordering.specs.Listing.{answers_exactly, above_zeros}
 use Rattle.ordered.specs.Promise.{OrderedPromise}
 use Rattle.ordered_calls.specs.Exactly as ordered
 use Rattle.ordered_calls.specs.Calls.{zeros_fit}
 use Rattle.ordered_calls.specs.OnTrees.{Ordered, ordered_maps}
 use Rattle.fits.specs.FitTurn.{room_for}
-use Rattle.fits_laws.specs.Runs.{Meant}
 use Rattle.fits_laws.specs.Questions.{FitBack, begins, FitTurns, Fits, FitsNot}
 use Rattle.fits_laws.specs.Exactly.{Came, yes, no, asks, FitsExactly, fits_comes, fits_exactly}
 

@@ -6,7 +6,7 @@
 --   altered_within  even then no more steps are taken in all than there were numbers left
 use Rattle.std.specs.Prelude.{ℕ, ◌+◌, ◌≤◌, ◌≡◌, refl, List, [], true}
 use Rattle.std.proofs.Common.{ap, sym, subst, arith}
-use Rattle.turns.specs.Turn.{Turned, turn, Steps}
+use Rattle.turns.specs.Turn.{Turned, Steps}
 use Rattle.turns.specs.Counts.{steps_append, counted}
 use Rattle.turns.specs.Chains.{Chain, one, more, Turns}
 use Rattle.trees.specs.Signature.{entries_of, width, entries}

@@ -10,14 +10,13 @@
 use Rattle.std.specs.Prelude.{ℕ, zero, suc, ◌+◌, ◌-◌, ◌*◌, ◌≤◌, ◌<◌, ◌≡◌, refl, ◌⊎◌, List, length}
 use Rattle.std.proofs.Common.{ap, sym, ◌∙◌, subst, inl, inr, arith, zero-mul, eqb-true}
 use Rattle.std.proofs.lemmas.Bool.{false≢true}
-use Rattle.turns.specs.Turn.{Halt, turn}
+use Rattle.turns.specs.Turn.{Halt}
 use Rattle.turns.specs.Chains.{Reached, Underway, chain_ends}
 use Rattle.trees.specs.Signature.{entries_of, width, entries}
 use Rattle.terms.specs.declared.Stop.{Stop}
 use Rattle.terms.specs.declared.Refusal.{Refusal}
 use Rattle.checked.specs.Apart.{stop_of, told_halt}
 use Rattle.twig_turns.specs.Grounds.{Accepted, Grounds, accepted_grounds}
-use Rattle.ordering.specs.Answer.{Answer}
 use Rattle.fits_rows.specs.declared.Stage.{Stage}
 use Rattle.fits_rows.specs.Fitting.{Fitting, at, told, told_by, stage_fits}
 use Rattle.fits_rows.specs.FittingLaws.{Ranged, left_by, left_of, steps_within}

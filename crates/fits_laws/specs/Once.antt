@@ -3,7 +3,7 @@
 --   fits_once      so it is of two chains that have told
 use Rattle.std.specs.Prelude.{ℕ, ◌+◌, ◌*◌, ◌≤◌, ◌≡◌, ◌⊎◌, List, length}
 use Rattle.std.proofs.Common.{ap, sym, ◌∙◌, inl, inr, arith}
-use Rattle.turns.specs.Turn.{Halt, Turned, turn, ended}
+use Rattle.turns.specs.Turn.{Halt, Turned, ended}
 use Rattle.turns.specs.Laws.{outcome_turn}
 use Rattle.turns.specs.Chains.{Reached, Underway}
 use Rattle.trees.specs.Signature.{entries_of, width, entries}

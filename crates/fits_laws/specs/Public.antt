@@ -12,7 +12,7 @@
 --   stage_apart            the numbers of a stage tell it apart
 use Rattle.std.specs.Prelude.{ℕ, ◌+◌, ◌≤◌, ◌<◌, ◌≡◌, refl, List, true, length}
 use Rattle.std.proofs.Common.{ap, ◌∙◌, sym, subst, arith}
-use Rattle.turns.specs.Turn.{Next, Halt, Turned, turn, Step, on, found, Steps}
+use Rattle.turns.specs.Turn.{Next, Halt, Turned, Step, on, found, Steps}
 use Rattle.turns.specs.Laws as Laws
 use Rattle.turns.specs.Judging as Judging
 use Rattle.trees.specs.Signature.{entries_of, width, entries}

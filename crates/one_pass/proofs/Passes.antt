@@ -17,7 +17,7 @@ use native.Mathlib.Decide.{ℕ_discrete}
 use Rattle.turns.specs.Pick.{pick}
 use Rattle.trees.specs.Signature.{entries_of, width}
 use Rattle.xpath.specs.Spread.{spread_of, Seen, More, more_up, more_down, Greatest, Least, raised_to, lowered_to, raised_greatest, lowered_least, spread_descendant, spread_following, spread_ancestor, spread_preceding, spread_child}
-use Rattle.xpath.specs.SpreadKids.{Kids, kids_hit, kids_miss, spread_parent, spread_later, spread_earlier}
+use Rattle.xpath.proofs.SpreadKids.{Kids, kids_hit, kids_miss, spread_parent, spread_later, spread_earlier}
 use Rattle.blocks.specs.Checked.{Ready}
 use Rattle.marks.specs.Marks.{marked, Marks}
 

@@ -10,7 +10,5 @@ pub mod Levels
 pub mod Rising
 pub mod Kept
 pub mod NodeLists
-pub mod Says
 pub mod Spread
-pub mod SpreadKids
 pub mod SpreadUnion

@@ -5,7 +5,7 @@ use native.Mathlib.Omega.{arith}
 use Rattle.calls_fits.proofs.fit_of.Goals as goal
 
 pub returns-then-stage-gt2 : goal.returns-then-stage-gt2
-returns-then-stage-gt2 c = sym (fit_outside c.args.t1 (omega arith))
+returns-then-stage-gt2 c = sym (fit_outside c.args.l (omega arith))
 
 pub returns : goal.returns
-returns c = sym (fit_inside c.args.t1 c.stage_of-named.result (omega arith) c.stage_of-named.ensures)
+returns c = sym (fit_inside c.args.l c.stage_of-named.result (omega arith) c.stage_of-named.ensures)

@@ -5,9 +5,9 @@ use native.Mathlib.Omega.{arith}
 use Rattle.calls_fits.proofs.kept.Goals as goal
 
 pub returns-then-given_stage-gt2 : goal.returns-then-given_stage-gt2
-returns-then-given_stage-gt2 c = sym (kept_given c.args.t1 c.args.after (omega arith))
+returns-then-given_stage-gt2 c = sym (kept_given c.args.given c.args.after (omega arith))
 
 pub returns : goal.returns
 returns c =
     let a = c.args in
-    c.Numbers-of.ensures ∙ sym (kept_fit a.t1 a.after (omega arith))
+    c.numbers_of.ensures ∙ sym (kept_fit a.given a.after (omega arith))

@@ -2,7 +2,7 @@ use mathlib.Core.Path.{◌≡◌, ◌∙◌}
 use Prim.Native.Nat.{◌+◌, ◌≤◌}
 use lib.ListN.{length-set}
 use Rattle.trees.specs.Signature.{entries_of, width}
-use Rattle.xpath.specs.SpreadKids.{kids_none}
+use Rattle.xpath.proofs.SpreadKids.{kids_none}
 use Rattle.marks.proofs.Marking.{marks_none, back_none, back_hit, back_miss, back_done}
 use Rattle.one_pass.proofs.Passes.{parent_small, earlier_is, handed_length, handed_down}
 use native.Mathlib.Omega.{arith}

@@ -5,7 +5,7 @@ use lib.ListN.{length}
 use lib.Dec.{ltb}
 use Rattle.trees.specs.Signature.{entries_of, width}
 use Rattle.xpath.specs.Spread.{Seen}
-use Rattle.xpath.specs.SpreadKids.{Kids}
+use Rattle.xpath.proofs.SpreadKids.{Kids}
 use Rattle.marks.specs.Marks.{marked}
 use Rattle.marks.proofs.Marking.{Over}
 use Rattle.one_pass.proofs.Passes.{spreads}

@@ -2,7 +2,7 @@ use mathlib.Core.Path.{◌≡◌, ◌∙◌}
 use Prim.Native.Nat.{◌+◌, ◌-◌, ◌≤◌}
 use lib.ListN.{length-set}
 use Rattle.trees.specs.Signature.{entries_of, width}
-use Rattle.xpath.specs.SpreadKids.{kids_none}
+use Rattle.xpath.proofs.SpreadKids.{kids_none}
 use Rattle.marks.proofs.Marking.{marks_none, part_none, part_hit, part_miss, part_done}
 use Rattle.one_pass.proofs.Passes.{parent_small, later_is, handed_length, handed_up}
 use native.Mathlib.Omega.{arith}

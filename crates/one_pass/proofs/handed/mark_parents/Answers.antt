@@ -1,7 +1,7 @@
 use mathlib.Core.Path.{◌≡◌, ◌∙◌}
 use Prim.Native.Nat.{◌+◌, ◌-◌, ◌≤◌}
 use Rattle.trees.specs.Signature.{entries_of, width}
-use Rattle.xpath.specs.SpreadKids.{kids_none}
+use Rattle.xpath.proofs.SpreadKids.{kids_none}
 use Rattle.one_pass.proofs.Passes.{parent_small, parents_are, handed_length, handed_up}
 use native.Mathlib.Omega.{arith}
 use Rattle.one_pass.proofs.handed.mark_parents.Goals as goal

@@ -4,7 +4,7 @@ use Prim.Native.Nat.{◌+◌, ◌-◌, ◌≤◌}
 use lib.ListN.{length}
 use Rattle.trees.specs.Signature.{entries_of, width}
 use Rattle.xpath.specs.Spread.{Seen}
-use Rattle.xpath.specs.SpreadKids.{Kids}
+use Rattle.xpath.proofs.SpreadKids.{Kids}
 use Rattle.marks.specs.Marks.{marked}
 use Rattle.one_pass.proofs.handed.mark_parents.Given as goal
 

@@ -1,0 +1,3 @@
+-- Laws that rest on the wording of the axes' definitions.
+pub mod Says
+pub mod SpreadKids
