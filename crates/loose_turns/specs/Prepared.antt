@@ -21,7 +21,7 @@ use Rattle.turns.specs.Judging as Judging
 use Rattle.trees.specs.Signature.{entries_of, width, entries}
 use Rattle.terms.specs.declared.Stop.{Stop}
 use Rattle.terms.specs.declared.Refusal.{Refusal}
-use Rattle.terms.specs.Stops.{told, halt_told}
+use Rattle.terms.specs.Stops.{halt_told}
 use Rattle.checked.specs.Apart.{halt_of, halt_of_law, told_apart, told_halt, halt_told_law}
 use Rattle.preparing.specs.declared.Prep.{Prep}
 use Rattle.preparing.specs.declared.PrepTurn.{PrepTurn}

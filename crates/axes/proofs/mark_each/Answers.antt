@@ -1,4 +1,3 @@
-use Prim.Native.Nat.{◌-◌, ◌≤◌}
 use Rattle.trees.specs.Signature.{entries_of, width}
 use Rattle.xpath.specs.Axes.{kept, chosen}
 use Rattle.one_pass.proofs.Contexts.{each_none, each_more, each_done}

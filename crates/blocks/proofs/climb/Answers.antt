@@ -1,5 +1,4 @@
-use mathlib.Core.Path.{◌≡◌, ap}
-use Prim.Native.Nat.{◌+◌, ◌≤◌}
+use mathlib.Core.Path.{ap}
 use Rattle.trees.specs.Signature.{entries_of, width}
 use Rattle.xpath.specs.Axes.{level_of}
 use Rattle.xpath.specs.Levels.{level_root, level_up, level_high}

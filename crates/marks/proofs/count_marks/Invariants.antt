@@ -1,5 +1,5 @@
 -- The count is that of the marked ranks up to j.
-use mathlib.Core.Path.{◌≡◌, ◌∙◌}
+use mathlib.Core.Path.{◌≡◌}
 use Prim.Native.Nat.{◌-◌, ◌≤◌}
 use lib.ListN.{length}
 use Rattle.xpath.specs.Select.{up_to}

@@ -1,7 +1,5 @@
-use mathlib.Core.Path.{◌≡◌, sym, ◌∙◌}
-use Prim.Native.Nat.{◌-◌, ◌≤◌}
+use mathlib.Core.Path.{sym, ◌∙◌}
 use Rattle.xpath.specs.Rising.{rising_is, rising_end, rising_low, rising_high, rising_step}
-use mathlib.Core.Bool.{◌&&◌}
 use native.Mathlib.Omega.{arith}
 use Rattle.marks.proofs.is_ascending.Goals as goal
 

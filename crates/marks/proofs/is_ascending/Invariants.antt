@@ -1,5 +1,5 @@
 -- What is left to judge after the last context says the same as the whole list.
-use mathlib.Core.Path.{◌≡◌, ◌∙◌}
+use mathlib.Core.Path.{◌≡◌}
 use Prim.Native.Nat.{◌-◌, ◌≤◌}
 use lib.ListN.{length, drop}
 use Rattle.xpath.specs.Select.{rises, within}

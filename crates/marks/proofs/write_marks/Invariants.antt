@@ -1,6 +1,6 @@
 -- The room holds the marked ranks up to j at its front, and is as it was beyond them.
-use mathlib.Core.Path.{◌≡◌, ◌∙◌}
-use Prim.Native.Nat.{◌+◌, ◌-◌, ◌≤◌}
+use mathlib.Core.Path.{◌≡◌}
+use Prim.Native.Nat.{◌-◌, ◌≤◌}
 use lib.ListN.{length}
 use Rattle.xpath.specs.Select.{up_to}
 use Rattle.marks.specs.Marks.{marked}

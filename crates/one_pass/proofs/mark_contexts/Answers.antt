@@ -1,4 +1,3 @@
-use Prim.Native.Nat.{◌-◌, ◌≤◌}
 use lib.ListN.{length-set}
 use lib.Dec.{eqb}
 use Rattle.xpath.specs.Rising.{within_at}

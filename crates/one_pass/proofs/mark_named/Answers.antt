@@ -1,7 +1,6 @@
-use mathlib.Core.Path.{◌≡◌, sym, ◌∙◌}
-use Prim.Native.Nat.{◌+◌, ◌-◌, ◌≤◌}
+use mathlib.Core.Path.{sym, ◌∙◌}
+use Prim.Native.Nat.{◌+◌}
 use lib.ListN.{length-set}
-use mathlib.Core.Bool.{◌&&◌}
 use Rattle.trees.specs.Signature.{entries_of, width}
 use Rattle.trees.specs.Names.{passes}
 use Rattle.marks.specs.Marks.{marked}

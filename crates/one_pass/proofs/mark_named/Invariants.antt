@@ -1,6 +1,6 @@
 -- Of the ranks up to j, those that have a mark and a name that passes have one in the others.
-use mathlib.Core.Path.{◌≡◌, ◌∙◌}
-use Prim.Native.Nat.{◌+◌, ◌-◌, ◌≤◌}
+use mathlib.Core.Path.{◌≡◌}
+use Prim.Native.Nat.{◌-◌, ◌≤◌}
 use lib.ListN.{length}
 use lib.Dec.{leb}
 use mathlib.Core.Bool.{◌&&◌}

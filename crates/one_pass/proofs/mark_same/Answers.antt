@@ -1,5 +1,3 @@
-use mathlib.Core.Path.{◌≡◌}
-use Prim.Native.Nat.{◌-◌, ◌≤◌}
 use lib.ListN.{length-set}
 use Rattle.marks.proofs.Marking.{mark_yes, mark_no, part_none, part_hit, part_miss, part_done}
 use native.Mathlib.Omega.{arith}

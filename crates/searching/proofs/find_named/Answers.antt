@@ -1,5 +1,5 @@
-use Prim.Native.Nat.{◌+◌, ◌-◌, ◌≤◌, ◌<◌}
-use mathlib.Core.Path.{◌≡◌, ◌∙◌, sym}
+use Prim.Native.Nat.{◌+◌}
+use mathlib.Core.Path.{◌∙◌, sym}
 use Rattle.trees.specs.Signature.{entries_of, width}
 use Rattle.xpath.specs.SelectLaws.{up_length}
 use Rattle.searching.specs.Only.{named_after}

@@ -1,6 +1,6 @@
 -- The count is that of the named ranks up to j. It stays below p until it comes to p at a rank whose name passes, which is the rank that is wanted.
-use Prim.Native.Nat.{◌+◌, ◌-◌, ◌≤◌, ◌<◌}
-use mathlib.Core.Path.{◌≡◌, ◌∙◌}
+use Prim.Native.Nat.{◌-◌, ◌≤◌, ◌<◌}
+use mathlib.Core.Path.{◌≡◌}
 use lib.ListN.{length}
 use Rattle.trees.specs.Signature.{entries_of, width}
 use Rattle.xpath.specs.Select.{up_to}

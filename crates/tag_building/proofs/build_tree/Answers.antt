@@ -1,6 +1,4 @@
-use mathlib.Core.Path.{◌≡◌, ap, ◌∙◌}
-use mathlib.Core.Bool.{false}
-use Prim.Native.Nat.{◌-◌}
+use mathlib.Core.Path.{ap, ◌∙◌}
 use lib.ListN.{length}
 use native.Mathlib.Omega.{arith}
 use Rattle.tag_building.proofs.Build.{close_long}

@@ -1,5 +1,5 @@
 -- What was asked at the start is what is still asked at each tag, and the tags passed are built; a tag without a fault opens or closes an element.
-use mathlib.Core.Path.{◌≡◌, ◌∙◌}
+use mathlib.Core.Path.{◌≡◌}
 use mathlib.Core.Bool.{false}
 use Prim.Native.Nat.{◌-◌}
 use lib.ListN.{length}

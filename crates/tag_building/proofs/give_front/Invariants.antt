@@ -1,7 +1,5 @@
 -- The numbers on their way into the room: what is left of them at place i would make it whole.
 use Prim.Native.Nat.{◌-◌, ◌≤◌}
-use mathlib.Core.Path.{◌≡◌, ◌∙◌}
-use mathlib.Core.List.{[], ◌∷◌}
 use lib.ListN.{take}
 use lib.Seq.{slice}
 use Rattle.bytes_read.proofs.Rooms.{Storing}

@@ -1,5 +1,4 @@
-use Prim.Native.Nat.{◌-◌, ◌≤◌, ◌<◌}
-use mathlib.Core.Path.{◌≡◌, refl}
+use mathlib.Core.Path.{refl}
 use mathlib.Core.Bool.{◌&&◌}
 use lib.Dec.{leb}
 use Rattle.trees.specs.Signature.{entries_of, width}

@@ -1,7 +1,6 @@
 -- The count is that of the chosen elements up to j, and less than p.
 use Prim.Native.Nat.{◌-◌, ◌≤◌, ◌<◌}
 use mathlib.Core.Path.{◌≡◌}
-use mathlib.Core.Bool.{◌&&◌}
 use lib.ListN.{length}
 use Rattle.trees.specs.Signature.{entries_of, width}
 use Rattle.xpath.specs.Select.{up_to}

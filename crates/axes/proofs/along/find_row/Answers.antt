@@ -1,5 +1,4 @@
-use Prim.Native.Nat.{◌+◌, ◌-◌, ◌≤◌, ◌<◌}
-use mathlib.Core.Path.{◌≡◌}
+use Prim.Native.Nat.{◌+◌}
 use mathlib.Core.Bool.{◌&&◌}
 use Rattle.trees.specs.Names.{passes}
 use Rattle.trees.specs.Signature.{entries_of, width}

@@ -1,5 +1,5 @@
 -- The count is that of the named elements of the row up to j, and less than p. The next rank is in the row, since the ff of its last element leads there.
-use Prim.Native.Nat.{◌+◌, ◌-◌, ◌≤◌, ◌<◌}
+use Prim.Native.Nat.{◌-◌, ◌≤◌, ◌<◌}
 use mathlib.Core.Path.{◌≡◌}
 use lib.ListN.{length}
 use mathlib.Core.Bool.{◌&&◌}

@@ -1,5 +1,3 @@
-use Prim.Native.Nat.{◌≤◌}
-use mathlib.Core.Path.{◌≡◌}
 use Rattle.trees.specs.Signature.{entries_of, width}
 use Rattle.xpath.specs.SelectLaws.{up_length}
 use Rattle.xpath.specs.Axes.{chosen}

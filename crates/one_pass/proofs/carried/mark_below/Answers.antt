@@ -1,5 +1,4 @@
-use mathlib.Core.Path.{◌≡◌}
-use Prim.Native.Nat.{◌+◌, ◌-◌, ◌≤◌}
+use Prim.Native.Nat.{◌+◌}
 use lib.ListN.{length-set}
 use Rattle.trees.specs.Signature.{entries_of, width}
 use Rattle.xpath.specs.Spread.{none_up}

@@ -1,5 +1,3 @@
-use mathlib.Core.Path.{◌≡◌}
-use Prim.Native.Nat.{◌+◌, ◌≤◌}
 use lib.ListN.{length-set}
 use Rattle.xpath.specs.Spread.{none_down}
 use Rattle.marks.proofs.Marking.{back_none, back_hit, back_miss, back_done}

@@ -1,5 +1,5 @@
-use mathlib.Core.Path.{◌≡◌, ◌∙◌}
-use Prim.Native.Nat.{◌+◌, ◌-◌, ◌≤◌}
+use mathlib.Core.Path.{◌∙◌}
+use Prim.Native.Nat.{◌+◌}
 use lib.ListN.{length-set}
 use Rattle.marks.proofs.Marking.{part_none, part_hit, part_miss, part_done}
 use Rattle.one_pass.proofs.Passes.{child_is, parent_small}

@@ -1,6 +1,6 @@
 -- A rank is a child of a marked one exactly if its parent has a mark.
-use mathlib.Core.Path.{◌≡◌, ◌∙◌}
-use Prim.Native.Nat.{◌+◌, ◌-◌, ◌≤◌}
+use mathlib.Core.Path.{◌≡◌}
+use Prim.Native.Nat.{◌-◌, ◌≤◌}
 use lib.ListN.{length}
 use lib.Dec.{leb}
 use Rattle.marks.proofs.Marking.{Over}

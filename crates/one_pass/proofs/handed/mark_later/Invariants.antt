@@ -1,5 +1,5 @@
 -- The handed marks are at the parents of the marked ranks before j, so that one at the parent of j tells an earlier sibling.
-use mathlib.Core.Path.{◌≡◌, ◌∙◌}
+use mathlib.Core.Path.{◌≡◌}
 use Prim.Native.Nat.{◌+◌, ◌-◌, ◌≤◌}
 use lib.ListN.{length}
 use lib.Dec.{leb}

@@ -1,5 +1,5 @@
-use mathlib.Core.Path.{◌≡◌, ◌∙◌}
-use Prim.Native.Nat.{◌+◌, ◌-◌, ◌≤◌}
+use mathlib.Core.Path.{◌∙◌}
+use Prim.Native.Nat.{◌+◌}
 use Rattle.trees.specs.Signature.{entries_of, width}
 use Rattle.xpath.proofs.SpreadKids.{kids_none}
 use Rattle.one_pass.proofs.Passes.{parent_small, parents_are, handed_length, handed_up}

@@ -1,5 +1,5 @@
 -- The marks are at just the parents of the marked ranks so far.
-use mathlib.Core.Path.{◌≡◌, ◌∙◌}
+use mathlib.Core.Path.{◌≡◌}
 use Prim.Native.Nat.{◌+◌, ◌-◌, ◌≤◌}
 use lib.ListN.{length}
 use Rattle.trees.specs.Signature.{entries_of, width}
