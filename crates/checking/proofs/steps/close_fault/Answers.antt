@@ -1,7 +1,8 @@
 -- Each return is one case of rules 3 and 4, and the tests on the way there are that case's premises.
+use Rattle.trees.specs.Signature.{cell, width}
 use Rattle.checking.proofs.Cases.{close_none, close_full, close_post, close_ff, close_fa, close_moved}
 use Rattle.checking.proofs.Plain.{number_is, number_moved}
-use mathlib.Core.Path.{sym, ◌∙◌}
+use mathlib.Core.Path.{◌≡◌, sym, ◌∙◌}
 use native.Mathlib.Omega.{arith}
 use Rattle.checking.proofs.steps.close_fault.Goals as goal
 
@@ -32,11 +33,11 @@ number-up-requires c = (omega arith, omega arith, c.requires.0)
 pub returns-then-up-top : goal.returns-then-up-top
 returns-then-up-top c =
     let post = sym c.number-post.ensures ∙ c.if-post-closed.false in
-    let ff = sym c.number-ff.ensures ∙ c.if-ff-i.false in
+    let ff : cell width c.args.sig.now c.args.top 2 ≡ c.args.i = omega (arith, c.number-ff.ensures) in
     sym (number_moved _ _ (close_moved _ _ c.if-top-eq0.false c.if-closed-i.false post ff (omega arith)))
 
 pub returns-else-up-top : goal.returns-else-up-top
 returns-else-up-top c =
     let post = sym c.number-post.ensures ∙ c.if-post-closed.false in
-    let ff = sym c.number-ff.ensures ∙ c.if-ff-i.false in
+    let ff : cell width c.args.sig.now c.args.top 2 ≡ c.args.i = omega (arith, c.number-ff.ensures) in
     sym (number_is _ _ _ (close_fa _ _ c.if-top-eq0.false c.if-closed-i.false post ff (omega arith)))
