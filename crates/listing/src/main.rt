@@ -3,7 +3,8 @@
 // its error. The text has at most 800,025 bytes.
 #![tactic(auto)]
 
-ghost use Rattle.std.specs.Prelude.{◌≡◌, ◌+◌, ◌≤◌, length, IfOk};
+ghost use Rattle.std.specs.Prelude.{◌≡◌, ◌+◌, ◌<◌, ◌≤◌, length, take, IfOk};
+ghost use Rattle.std.specs.Io.KnownBytes.{Consumes, IsAtEnd};
 ghost use Rattle.lines.specs.Listing.{most_bytes, text_room};
 
 use std::io;
@@ -23,15 +24,17 @@ fn text_room() -> [u8; 819200]
     [0; 819200]
 }
 
-// Reads until the room is full or the input ends, and answers how many bytes stand at the front of the room.
-fn read_full(input: &mut impl Read, room: &mut [u8]) -> io::Result<usize>
-    ensures { IfOk result (λ count. count ≤ length room.new) }
+// Reads until the room is full or the input ends, and answers how many bytes were read: they stand at the front of the room, in their order.
+fn read_full<R: Read>(input: &mut R, room: &mut [u8]) -> io::Result<usize>
+    ensures within { IfOk result (λ count. count ≤ length room.new) }
+    ensures bytes { IfOk result (λ count. Consumes (R.remaining input.old) (R.remaining input.new) (take count room.new)) }
+    ensures end { IfOk result (λ count. count < length room.new → IsAtEnd (R.remaining input.new)) }
 {
     let mut done = 0;
     while done < room.len() {
         let count = input.read(&mut room[done..])?;
         if count == 0 {
-            break;
+            return Ok(done);
         }
         done += count;
     }

@@ -1,9 +1,13 @@
-use Rattle.std.proofs.Common.{length, ◌-◌, ◌≤◌}
+-- What stands at the front of the room is what was read.
+use Rattle.std.proofs.Common.{◌-◌, ◌≤◌, length, take}
+use Rattle.std.specs.Io.KnownBytes.{Consumes}
 use Rattle.listing.proofs.read_full.Given as goal
 
--- What was read is no more than the room.
 abbrev pub invariant-loop-done : goal.invariant-loop-done
-invariant-loop-done g l = l.done ≤ length l.room
+invariant-loop-done g l = record {
+  within : l.done ≤ length l.room;
+  bytes : Consumes (g.R.Read.remaining l.initial.input) (g.R.Read.remaining l.input) (take l.done l.room);
+}
 
 -- Each read leaves less room.
 abbrev pub decreases-loop-done : goal.decreases-loop-done
