@@ -2,7 +2,7 @@
 #![tactic(auto)]
 
 use checking::CheckState;
-use libc::STDOUT_FILENO;
+use std::io;
 use terms::{Kind, Refusal, Stop};
 
 // The sample menu: name, post, ff and fa of each element.
@@ -11,72 +11,70 @@ const TEN: [u16; 40] = [
     11, 7, 9, 6, 10, 8, 10, 7, 11, 8,
 ];
 
-fn say(text: &[u8]) {
-    io::write_all(STDOUT_FILENO, text);
+fn say(rt: &impl Print, text: &str) -> io::Result<()> {
+    rt.print(text)
 }
 
-fn say_number(x: u64) {
-    io::print_decimal(STDOUT_FILENO, x);
+fn say_number(rt: &impl Print, x: u64) -> io::Result<()> {
+    rt.print(x)
 }
 
 fn wide(x: u16) -> u64 {
     x as u64
 }
 
-fn say_refused(refusal: Refusal) {
-    say(b"refused with number ");
-    say_number(wide(refusal.number));
-    say(b" at entry ");
-    say_number(wide(refusal.entry.0));
-    say(b"\n");
+fn say_refused(rt: &impl Print, refusal: Refusal) -> io::Result<()> {
+    say(rt, "refused with number ")?;
+    say_number(rt, wide(refusal.number))?;
+    say(rt, " at entry ")?;
+    say_number(rt, wide(refusal.entry.0))?;
+    say(rt, "\n")
 }
 
 // What stopped a turn, and whether there is more to do.
-fn say_stop(stop: Stop) -> bool {
+fn say_stop(rt: &impl Print, stop: Stop) -> io::Result<bool> {
     match stop {
         Stop::Answer => {
-            say(b"at an answer\n");
-            false
+            say(rt, "at an answer\n")?;
+            Ok(false)
         }
         Stop::End => {
-            say(b"accepted: a tree yields this signature\n");
-            false
+            say(rt, "accepted: a tree yields this signature\n")?;
+            Ok(false)
         }
         Stop::Budget => {
-            say(b"given back, to go on later\n");
-            true
+            say(rt, "given back, to go on later\n")?;
+            Ok(true)
         }
         Stop::Refused(refusal) => {
-            say_refused(refusal);
-            false
+            say_refused(rt, refusal)?;
+            Ok(false)
         }
     }
 }
 
 // Turns of seven steps until the check stops by itself; the menu can be used by others between two of them.
-fn check(sig: &[u16]) {
+fn check(rt: &impl Print, sig: &[u16]) -> io::Result<()> {
     let mut state = CheckState::fresh();
-    let mut left: u16 = 8192;
-    while 0 < left {
-        left -= 1;
+    for _ in 0..8192u16 {
         let turn = state.turn(Kind::Data, sig, 7);
-        say(b"a turn of ");
-        say_number(turn.steps);
-        say(b" steps, ");
-        let stop = turn.stop;
-        if say_stop(stop) {
-            state = turn.state;
-        } else {
-            return;
+        say(rt, "a turn of ")?;
+        say_number(rt, turn.steps)?;
+        say(rt, " steps, ")?;
+        if !say_stop(rt, turn.stop)? {
+            return Ok(());
         }
+        state = turn.state;
     }
+    Ok(())
 }
 
-fn main() {
-    say(b"a menu of ten elements:\n");
-    check(&TEN);
-    say(b"the same with a wrong pointer at entry 6:\n");
+// A write that fails ends the program with its error.
+fn main(rt: HostRuntime) -> io::Result<()> {
+    say(&rt, "a menu of ten elements:\n")?;
+    check(&rt, &TEN)?;
+    say(&rt, "the same with a wrong pointer at entry 6:\n")?;
     let mut bad = TEN;
     bad[23] = 3;
-    check(&bad);
+    check(&rt, &bad)
 }

@@ -11,8 +11,8 @@ use Rattle.trees.specs.Signature.{Entries}
 use Rattle.trees.specs.Facts.{Facts}
 use Rattle.ordering.specs.Table.{index, ends_in, one_of, Filled, FilledFrom}
 use Rattle.ordering.specs.Filling.{Behind, ends_kept, row_done_law, all_filled}
-use Rattle.ends.specs.Filled.{row_from, rows_from}
-use Rattle.ends.specs.FilledLaws.{row_fills, rows_fill, row_length}
+use Rattle.ends_down.specs.Filled.{row_from, rows_from}
+use Rattle.ends_down.specs.FilledLaws.{row_fills, rows_fill, row_length}
 
 module _ (n : ℕ) (e : Entries) (m : ℕ) (w : Entries) where
   -- the rest of the row, then the rows before it

@@ -1,13 +1,11 @@
 -- The rooms of the program.
 --   zeros_long      an array of zeros is as long as it says
 --   prints_within   what a call that prints answers is no more than the room's length
-use Prim.Native.Nat.{ℕ, ◌+◌, ◌≤◌, ◌<◌}
-use mathlib.Core.Path.{◌≡◌, sym, subst}
-use mathlib.Core.List.{List, [], ◌∷◌}
-use native.Mathlib.Omega.{arith}
+use Rattle.std.proofs.Common.{ℕ, List, [], ◌∷◌, ◌≡◌, ◌+◌, ◌<◌, ◌≤◌, length, sym, subst, arith}
+use Rattle.std.proofs.lemmas.List.{length-replicate}
+use Rattle.std.proofs.Math.ListN.{replicate, set, length-set}
 use native.Mathlib.Decide.{dec_lt}
-use lib.ListN.{length, set, length-set, replicate, length-replicate}
-use lib.Dec.{ltb}
+use Rattle.std.specs.Prelude.{ltb}
 use borrow.Author.Tests.{lt-ltb, le-ltb}
 use Rattle.turns.specs.Pick.{pick}
 use Rattle.digits.specs.Page.{Page, page, put_one, printed, Prints}

@@ -7,14 +7,12 @@ use terms::Kind;
 fn mark_at(bytes: &[u8], mark: u8) -> usize
     ensures { result ≤ length bytes.now }
 {
-    let mut i = 0;
-    while i < bytes.len() {
-        if bytes[i] == mark {
+    for (i, byte) in bytes.iter().enumerate() {
+        if *byte == mark {
             return i;
         }
-        i += 1;
     }
-    i
+    bytes.len()
 }
 
 // The line at the beginning of a text, without its end.
@@ -38,15 +36,13 @@ fn field_at(line: &[u8], k: u16) -> usize
     ensures { result ≤ length line.now }
 {
     let mut left = k;
-    let mut i = 0;
-    while i < line.len() {
+    for (i, byte) in line.iter().enumerate() {
         if left == 0 {
             return i;
         }
-        left = less(left, line[i]);
-        i += 1;
+        left = less(left, *byte);
     }
-    i
+    line.len()
 }
 
 // Field k of a line, counted from 0; a field that is not there is empty.
@@ -89,12 +85,10 @@ pub fn numbers_into(list: &[u8], room: &mut [u16]) -> usize {
     }
     let mut x: u16 = 0;
     let mut at = 0;
-    let mut i = 0;
-    while i < list.len() {
-        x = grown(x, list[i]);
-        at += step(list[i]);
+    for c in list {
+        x = grown(x, *c);
+        at += step(*c);
         store(room, at, x);
-        i += 1;
     }
     at + 1
 }
@@ -114,11 +108,7 @@ pub fn size(x: u16) -> usize {
 
 // A number of a line as a budget: 65,535 stands for the greatest one.
 pub fn great(x: u16) -> u64 {
-    if x == 65535 {
-        18446744073709551615
-    } else {
-        x as u64
-    }
+    if x == 65535 { u64::MAX } else { x as u64 }
 }
 
 // The kind of tree that a word names, `twig` or another.

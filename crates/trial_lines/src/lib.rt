@@ -3,10 +3,12 @@
 // the others are lists of numbers. A line without a stroke is a comment.
 #![tactic(auto)]
 
+mod cases;
 mod fields;
 mod made;
 mod shown;
 
+pub use cases::read_cases;
 pub use fields::{field, front, great, kind_of, line_of, numbers_into, size, wide};
 pub use made::tree_into;
 pub use shown::{number, numbers, refused, room_left, stop_number, stopped, text, told};

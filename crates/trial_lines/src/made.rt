@@ -88,9 +88,7 @@ fn element(sig: &mut [u16], letter: u8, n: usize, i: usize)
 fn elements(sig: &mut [u16], letter: u8, n: usize)
     requires { n ≤ 20000 }
 {
-    let mut i = 0;
-    while i < n {
-        i += 1;
+    for i in 1..=n {
         element(sig, letter, n, i);
     }
 }

@@ -1,53 +1,53 @@
 // Printing: texts, numbers and what calls answer.
 use crate::fields::wide;
-use libc::STDOUT_FILENO;
+use std::io;
+use std::io::Write;
 use terms::{Refusal, Stop, Written};
 
-pub fn text(bytes: &[u8]) {
-    io::write_all(STDOUT_FILENO, bytes);
+// Bytes as they are: a label need not be text.
+pub fn text(out: &mut impl Write, bytes: &[u8]) -> io::Result<()> {
+    out.write_all(bytes)
 }
 
 // A blank and a number.
-pub fn number(x: u64) {
-    text(b" ");
-    io::print_decimal(STDOUT_FILENO, x);
+pub fn number(out: &mut impl Write, x: u64) -> io::Result<()> {
+    write!(out, " {x}")
 }
 
 // Every number of a list.
-pub fn numbers(s: &[u16]) {
-    let mut i = 0;
-    while i < s.len() {
-        number(wide(s[i]));
-        i += 1;
+pub fn numbers(out: &mut impl Write, s: &[u16]) -> io::Result<()> {
+    for x in s {
+        number(out, wide(*x))?;
     }
+    Ok(())
 }
 
-fn number_and_entry(refusal: Refusal) {
-    number(wide(refusal.number));
-    number(wide(refusal.entry.0));
+fn number_and_entry(out: &mut impl Write, refusal: Refusal) -> io::Result<()> {
+    number(out, wide(refusal.number))?;
+    number(out, wide(refusal.entry.0))
 }
 
-pub fn refused(refusal: Refusal) {
-    text(b" refused");
-    number_and_entry(refusal);
+pub fn refused(out: &mut impl Write, refusal: Refusal) -> io::Result<()> {
+    text(out, b" refused")?;
+    number_and_entry(out, refusal)
 }
 
 // What a call that writes into a room answers.
-pub fn told(answer: Written) {
+pub fn told(out: &mut impl Write, answer: Written) -> io::Result<()> {
     match answer {
         Written::Length(len) => {
-            text(b" length");
-            number(len as u64);
+            text(out, b" length")?;
+            number(out, len as u64)
         }
-        Written::Refused(refusal) => refused(refusal),
+        Written::Refused(refusal) => refused(out, refusal),
     }
 }
 
 // What a call leaves in the room, to the line's end.
-pub fn room_left(room: &[u16]) {
-    text(b" room");
-    numbers(room);
-    text(b"\n");
+pub fn room_left(out: &mut impl Write, room: &[u16]) -> io::Result<()> {
+    text(out, b" room")?;
+    numbers(out, room)?;
+    text(out, b"\n")
 }
 
 // 0 an answer, 1 the end, 2 the budget, 3 a refusal.
@@ -61,11 +61,10 @@ pub fn stop_number(stop: Stop) -> u64 {
 }
 
 // What stopped a turn, with the refusal's number and entry, or 0 and 0.
-pub fn stopped(stop: Stop) {
-    number(stop_number(stop));
+pub fn stopped(out: &mut impl Write, stop: Stop) -> io::Result<()> {
+    number(out, stop_number(stop))?;
     let Stop::Refused(refusal) = stop else {
-        text(b" 0 0");
-        return;
+        return text(out, b" 0 0");
     };
-    number_and_entry(refusal);
+    number_and_entry(out, refusal)
 }

@@ -1,39 +1,41 @@
 // The level, the place and the block of entries.
 use blocks::{LevelAnswer, PlaceAnswer};
+use std::io;
+use std::io::Write;
 use terms::PreRank;
 use trial_lines::{number, refused, text, wide};
 
-fn level_told(level: LevelAnswer) {
+fn level_told(out: &mut impl Write, level: LevelAnswer) -> io::Result<()> {
     match level {
-        LevelAnswer::Level(l) => number(wide(l)),
-        LevelAnswer::Refused(refusal) => refused(refusal),
+        LevelAnswer::Level(l) => number(out, wide(l)),
+        LevelAnswer::Refused(refusal) => refused(out, refusal),
     }
 }
 
-fn place_told(place: PlaceAnswer) {
+fn place_told(out: &mut impl Write, place: PlaceAnswer) -> io::Result<()> {
     match place {
         PlaceAnswer::Numbers(first, count) => {
-            number(first as u64);
-            number(count as u64);
+            number(out, first as u64)?;
+            number(out, count as u64)
         }
-        PlaceAnswer::Refused(refusal) => refused(refusal),
+        PlaceAnswer::Refused(refusal) => refused(out, refusal),
     }
 }
 
 // The level, the place and the length of the block of one entry.
-fn entry_told(sig: &[u16], i: u16) {
-    number(wide(i));
-    level_told(blocks::level(sig, PreRank(i)));
-    place_told(blocks::block_place(sig, PreRank(i)));
+fn entry_told(out: &mut impl Write, sig: &[u16], i: u16) -> io::Result<()> {
+    number(out, wide(i))?;
+    level_told(out, blocks::level(sig, PreRank(i)))?;
+    place_told(out, blocks::block_place(sig, PreRank(i)))?;
     let block = blocks::block(sig, PreRank(i));
-    number(block.len() as u64);
-    text(b" /");
+    number(out, block.len() as u64)?;
+    text(out, b" /")
 }
 
 // The same of the ranks from one up to another.
-pub fn entries_told(sig: &[u16], from: u16, end: u16) {
+pub fn entries_told(out: &mut impl Write, sig: &[u16], from: u16, end: u16) -> io::Result<()> {
     for i in from..end {
-        entry_told(sig, i);
+        entry_told(out, sig, i)?;
     }
-    text(b"\n");
+    text(out, b"\n")
 }

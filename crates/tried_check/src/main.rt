@@ -5,10 +5,12 @@
 #![tactic(auto)]
 
 use checking::{CheckState, CheckTurn};
-use libc::STDIN_FILENO;
+use std::io;
+use std::io::{BufWriter, Write};
 use terms::{PostRank, PreRank, Verdict};
 use trial_lines::{
-    field, front, kind_of, line_of, number, numbers_into, refused, stopped, text, tree_into, wide,
+    field, front, kind_of, line_of, number, numbers_into, read_cases, refused, stopped, text,
+    tree_into, wide,
 };
 
 // What is tried, as words of a line.
@@ -18,72 +20,71 @@ const WHOLE: u16 = 119;
 
 const CUT: u16 = 99;
 
-fn shown(label: &[u8], turn: CheckTurn) {
-    text(label);
-    let stop = turn.stop;
-    stopped(stop);
-    number(turn.steps);
-    number(wide(turn.state.next.0));
-    number(wide(turn.state.top.0));
-    number(wide(turn.state.closed.0));
-    text(b"\n");
+fn shown(out: &mut impl Write, label: &[u8], turn: CheckTurn) -> io::Result<()> {
+    text(out, label)?;
+    stopped(out, turn.stop)?;
+    number(out, turn.steps)?;
+    number(out, wide(turn.state.next.0))?;
+    number(out, wide(turn.state.top.0))?;
+    number(out, wide(turn.state.closed.0))?;
+    text(out, b"\n")
 }
 
-fn judged(label: &[u8], verdict: Verdict) {
-    text(label);
+fn judged(out: &mut impl Write, label: &[u8], verdict: Verdict) -> io::Result<()> {
+    text(out, label)?;
     match verdict {
-        Verdict::Accepted => text(b" accepted"),
-        Verdict::Refused(refusal) => refused(refusal),
+        Verdict::Accepted => text(out, b" accepted")?,
+        Verdict::Refused(refusal) => refused(out, refusal)?,
     }
-    text(b"\n");
+    text(out, b"\n")
 }
 
 // A turn of b steps and then the rest: the states and sums are those of one turn.
-fn cut(label: &[u8], kind: u16, sig: &[u16], b: u64) {
+fn cut(out: &mut impl Write, label: &[u8], kind: u16, sig: &[u16], b: u64) -> io::Result<()> {
     let first = CheckState::fresh().turn(kind_of(kind), sig, b);
-    shown(label, first);
-    let state = first.state;
-    shown(b"then", state.turn(kind_of(kind), sig, 1000));
+    shown(out, label, first)?;
+    let second = first.state.turn(kind_of(kind), sig, 1000);
+    shown(out, b"then", second)
 }
 
-fn tried(label: &[u8], v: [u16; 6], sig: &[u16]) {
-    if v[0] == TURN {
-        let state = CheckState {
-            next: PreRank(v[3]),
-            top: PreRank(v[4]),
-            closed: PostRank(v[5]),
-        };
-        shown(label, state.turn(kind_of(v[1]), sig, wide(v[2])));
-        return;
-    }
-    if v[0] == WHOLE {
-        judged(label, checking::check_whole(kind_of(v[1]), sig));
-        return;
-    }
-    if v[0] == CUT {
-        cut(label, v[1], sig, wide(v[2]));
+fn tried(out: &mut impl Write, label: &[u8], v: [u16; 6], sig: &[u16]) -> io::Result<()> {
+    match v[0] {
+        TURN => {
+            let state = CheckState {
+                next: PreRank(v[3]),
+                top: PreRank(v[4]),
+                closed: PostRank(v[5]),
+            };
+            shown(out, label, state.turn(kind_of(v[1]), sig, wide(v[2])))
+        }
+        WHOLE => judged(out, label, checking::check_whole(kind_of(v[1]), sig)),
+        CUT => cut(out, label, v[1], sig, wide(v[2])),
+        _ => Ok(()),
     }
 }
 
-fn case(line: &[u8]) {
+fn case(out: &mut impl Write, line: &[u8]) -> io::Result<()> {
     let mut v = [0u16; 6];
     numbers_into(field(line, 1), &mut v);
     let mut sig = [0u16; 16389];
     let len = tree_into(field(line, 2), &mut sig);
-    tried(field(line, 0), v, front(&sig, len));
+    tried(out, field(line, 0), v, front(&sig, len))
 }
 
-fn each_case(lines: &[u8]) {
+fn each_case(out: &mut impl Write, lines: &[u8]) -> io::Result<()> {
     let mut from = 0;
     while from < lines.len() {
         let line = line_of(&lines[from..]);
-        case(line);
+        case(out, line)?;
         from += line.len() + 1;
     }
+    Ok(())
 }
 
-fn main() {
-    let mut lines = io::large_buffer();
-    let count = io::read_full(STDIN_FILENO, &mut lines);
-    each_case(&lines[..count]);
+// A read or a write that fails ends the program with its error.
+fn main(rt: HostRuntime) -> io::Result<()> {
+    let lines = read_cases(&rt)?;
+    let mut out = BufWriter::new(rt.alloc(), rt.stdout())?;
+    each_case(&mut out, lines.as_slice())?;
+    out.flush()
 }

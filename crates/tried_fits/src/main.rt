@@ -14,10 +14,13 @@ mod whole;
 
 use fits::Fit;
 use fits_rows::Stage;
-use libc::STDIN_FILENO;
 use shown::shown;
+use std::io;
+use std::io::{BufWriter, Write};
 use terms::PreRank;
-use trial_lines::{field, front, great, line_of, numbers_into, room_left, size, text, tree_into};
+use trial_lines::{
+    field, front, great, line_of, numbers_into, read_cases, room_left, size, text, tree_into,
+};
 use whole::{ask, cuts, lent};
 
 // What is tried, as words of a line.
@@ -37,68 +40,95 @@ fn stage_at(x: u16) -> Stage {
 }
 
 // A turn from the state of a case.
-fn one_turn(v: [u16; 6], sig: &[u16], twig: &[u16], room: &mut [u16]) {
-    let stage = stage_at(v[4]);
+fn one_turn(
+    out: &mut impl Write,
+    v: [u16; 6],
+    sig: &[u16],
+    twig: &[u16],
+    room: &mut [u16],
+) -> io::Result<()> {
     let state = Fit {
         node: v[2],
         entry: PreRank(v[3]),
-        stage,
+        stage: stage_at(v[4]),
     };
-    shown(state.turn(sig, twig, room, great(v[5])));
+    shown(out, state.turn(sig, twig, room, great(v[5])))
 }
 
 // The same, and the whole room where the case asks for it, so that the numbers are seen too which no step may touch.
-fn turn_and_room(v: [u16; 6], sig: &[u16], twig: &[u16], room: &mut [u16]) {
-    one_turn(v, sig, twig, &mut *room);
+fn turn_and_room(
+    out: &mut impl Write,
+    v: [u16; 6],
+    sig: &[u16],
+    twig: &[u16],
+    room: &mut [u16],
+) -> io::Result<()> {
+    one_turn(out, v, sig, twig, room)?;
     if v[0] == ROOM {
-        room_left(&*room);
+        room_left(out, room)
     } else {
-        text(b"\n");
+        text(out, b"\n")
     }
 }
 
 // One turn in a room of the length that the case gives; no number of a line is too long for it.
-fn once(line: &[u8], v: [u16; 6], sig: &[u16], twig: &[u16]) {
+fn once(
+    out: &mut impl Write,
+    line: &[u8],
+    v: [u16; 6],
+    sig: &[u16],
+    twig: &[u16],
+) -> io::Result<()> {
     let mut room = lent(field(line, 4));
     let length = size(v[1]);
-    text(field(line, 0));
-    text(b":");
+    text(out, field(line, 0))?;
+    text(out, b":")?;
     if length <= 65536 {
-        turn_and_room(v, sig, twig, &mut room[0..length]);
+        turn_and_room(out, v, sig, twig, &mut room[0..length])?;
     }
+    Ok(())
 }
 
 // A line whose second field is empty or is not there tries nothing.
-fn tried(line: &[u8], v: [u16; 6], sig: &[u16], twig: &[u16]) {
+fn tried(
+    out: &mut impl Write,
+    line: &[u8],
+    v: [u16; 6],
+    sig: &[u16],
+    twig: &[u16],
+) -> io::Result<()> {
     match v[0] {
-        0 => (),
-        ASK => ask(line, v, sig, twig),
-        CUTS => cuts(line, sig, twig),
-        _ => once(line, v, sig, twig),
+        0 => Ok(()),
+        ASK => ask(out, line, v, sig, twig),
+        CUTS => cuts(out, line, sig, twig),
+        _ => once(out, line, v, sig, twig),
     }
 }
 
-fn case(line: &[u8]) {
+fn case(out: &mut impl Write, line: &[u8]) -> io::Result<()> {
     let mut v = [0u16; 6];
     numbers_into(field(line, 1), &mut v);
     let mut sig = [0u16; 16389];
     let n = tree_into(field(line, 2), &mut sig);
     let mut twig = [0u16; 69];
     let m = tree_into(field(line, 3), &mut twig);
-    tried(line, v, front(&sig, n), front(&twig, m));
+    tried(out, line, v, front(&sig, n), front(&twig, m))
 }
 
-fn each_case(lines: &[u8]) {
+fn each_case(out: &mut impl Write, lines: &[u8]) -> io::Result<()> {
     let mut from = 0;
     while from < lines.len() {
         let line = line_of(&lines[from..]);
-        case(line);
+        case(out, line)?;
         from += line.len() + 1;
     }
+    Ok(())
 }
 
-fn main() {
-    let mut lines = io::large_buffer();
-    let count = io::read_full(STDIN_FILENO, &mut lines);
-    each_case(&lines[..count]);
+// A read or a write that fails ends the program with its error.
+fn main(rt: HostRuntime) -> io::Result<()> {
+    let lines = read_cases(&rt)?;
+    let mut out = BufWriter::new(rt.alloc(), rt.stdout())?;
+    each_case(&mut out, lines.as_slice())?;
+    out.flush()
 }

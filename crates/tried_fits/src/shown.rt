@@ -1,6 +1,8 @@
 // Printing: what a turn handed back, in numbers.
 use fits::{Fit, FitTurn};
 use fits_rows::Stage;
+use std::io;
+use std::io::Write;
 use terms::Stop;
 use trial_lines::{number, stopped, wide};
 
@@ -12,22 +14,19 @@ fn stage_number(stage: Stage) -> u64 {
     }
 }
 
-fn shown_state(state: Fit) {
-    number(wide(state.node));
-    number(wide(state.entry.0));
-    let stage = state.stage;
-    number(stage_number(stage));
+fn shown_state(out: &mut impl Write, state: Fit) -> io::Result<()> {
+    number(out, wide(state.node))?;
+    number(out, wide(state.entry.0))?;
+    number(out, stage_number(state.stage))
 }
 
 // What stopped the last turn, the steps in all, and the state.
-pub fn came_to(stop: Stop, steps: u64, state: Fit) {
-    stopped(stop);
-    number(steps);
-    shown_state(state);
+pub fn came_to(out: &mut impl Write, stop: Stop, steps: u64, state: Fit) -> io::Result<()> {
+    stopped(out, stop)?;
+    number(out, steps)?;
+    shown_state(out, state)
 }
 
-pub fn shown(turn: FitTurn) {
-    let stop = turn.stop;
-    let state = turn.state;
-    came_to(stop, turn.steps, state);
+pub fn shown(out: &mut impl Write, turn: FitTurn) -> io::Result<()> {
+    came_to(out, turn.stop, turn.steps, turn.state)
 }

@@ -1,7 +1,8 @@
 // Whole questions, in turns.
 use crate::shown::{came_to, shown};
 use fits::Fit;
-use std::num::wrapping_add_u64;
+use std::io;
+use std::io::Write;
 use terms::Stop;
 use trial_lines::{field, great, number, numbers_into, stop_number, text};
 
@@ -26,50 +27,67 @@ fn begun(sig: &[u16], twig: &[u16]) -> Fit {
 }
 
 // What all turns came to.
-fn told(stop: Stop, sum: u64, state: Fit, turns: u64) {
-    came_to(stop, sum, state);
-    text(b" turns");
-    number(turns);
+fn told(out: &mut impl Write, stop: Stop, sum: u64, state: Fit, turns: u64) -> io::Result<()> {
+    came_to(out, stop, sum, state)?;
+    text(out, b" turns")?;
+    number(out, turns)
 }
 
 // The turns of budget steps from a state on, each given the state and the room that the one before left. The largest question takes 656 turns here.
-fn turns(first: Fit, sig: &[u16], twig: &[u16], room: &mut [u16], budget: u64) {
+fn turns(
+    out: &mut impl Write,
+    first: Fit,
+    sig: &[u16],
+    twig: &[u16],
+    room: &mut [u16],
+    budget: u64,
+) -> io::Result<()> {
     let mut state = first;
     let mut sum: u64 = 0;
     for i in 0..5000u64 {
-        let turn = state.turn(sig, twig, &mut *room, budget);
-        let stop = turn.stop;
+        let turn = state.turn(sig, twig, room, budget);
         state = turn.state;
-        sum = wrapping_add_u64(sum, turn.steps);
-        if stop_number(stop) != 2 {
-            told(stop, sum, state, i + 1);
-            return;
+        sum = sum.wrapping_add(turn.steps);
+        if stop_number(turn.stop) != 2 {
+            return told(out, turn.stop, sum, state, i + 1);
         }
     }
-    text(b" too many turns");
+    text(out, b" too many turns")
 }
 
 // A whole question in turns of budget steps; there is none for a budget that the case does not name.
-fn asked(line: &[u8], sig: &[u16], twig: &[u16], budget: u64) {
+fn asked(
+    out: &mut impl Write,
+    line: &[u8],
+    sig: &[u16],
+    twig: &[u16],
+    budget: u64,
+) -> io::Result<()> {
     if budget == 0 {
-        return;
+        return Ok(());
     }
-    text(field(line, 0));
-    text(b" by");
-    number(budget);
-    text(b":");
+    text(out, field(line, 0))?;
+    text(out, b" by")?;
+    number(out, budget)?;
+    text(out, b":")?;
     let mut room = lent(field(line, 4));
-    turns(begun(sig, twig), sig, twig, &mut room, budget);
-    text(b"\n");
+    turns(out, begun(sig, twig), sig, twig, &mut room, budget)?;
+    text(out, b"\n")
 }
 
 // A whole question for each budget of the case.
-pub fn ask(line: &[u8], v: [u16; 6], sig: &[u16], twig: &[u16]) {
-    asked(line, sig, twig, great(v[1]));
-    asked(line, sig, twig, great(v[2]));
-    asked(line, sig, twig, great(v[3]));
-    asked(line, sig, twig, great(v[4]));
-    asked(line, sig, twig, great(v[5]));
+pub fn ask(
+    out: &mut impl Write,
+    line: &[u8],
+    v: [u16; 6],
+    sig: &[u16],
+    twig: &[u16],
+) -> io::Result<()> {
+    asked(out, line, sig, twig, great(v[1]))?;
+    asked(out, line, sig, twig, great(v[2]))?;
+    asked(out, line, sig, twig, great(v[3]))?;
+    asked(out, line, sig, twig, great(v[4]))?;
+    asked(out, line, sig, twig, great(v[5]))
 }
 
 // How many steps a whole question takes.
@@ -80,26 +98,32 @@ fn steps_of(line: &[u8], sig: &[u16], twig: &[u16]) -> u64 {
 }
 
 // A turn of a question that begins, and one with the rest of the steps, which is no step if the first told it.
-fn cut(line: &[u8], sig: &[u16], twig: &[u16], steps: u64, rest: u64) {
-    text(field(line, 0));
-    text(b" cut at");
-    number(steps);
-    text(b":");
+fn cut(
+    out: &mut impl Write,
+    line: &[u8],
+    sig: &[u16],
+    twig: &[u16],
+    steps: u64,
+    rest: u64,
+) -> io::Result<()> {
+    text(out, field(line, 0))?;
+    text(out, b" cut at")?;
+    number(out, steps)?;
+    text(out, b":")?;
     let mut room = lent(field(line, 4));
     let turn = begun(sig, twig).turn(sig, twig, &mut room, steps);
     let state = turn.state;
-    shown(turn);
-    text(b" then");
-    shown(state.turn(sig, twig, &mut room, rest));
-    text(b"\n");
+    shown(out, turn)?;
+    text(out, b" then")?;
+    shown(out, state.turn(sig, twig, &mut room, rest))?;
+    text(out, b"\n")
 }
 
 // Every cut of a question in two turns. The last of them leaves nothing for the second, which must tell the same again.
-pub fn cuts(line: &[u8], sig: &[u16], twig: &[u16]) {
+pub fn cuts(out: &mut impl Write, line: &[u8], sig: &[u16], twig: &[u16]) -> io::Result<()> {
     let whole = steps_of(line, sig, twig);
-    let mut steps: u64 = 0;
-    while steps < whole {
-        steps += 1;
-        cut(line, sig, twig, steps, whole - steps);
+    for steps in 0..whole {
+        cut(out, line, sig, twig, steps + 1, whole - (steps + 1))?;
     }
+    Ok(())
 }

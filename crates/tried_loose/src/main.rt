@@ -11,12 +11,13 @@
 mod shown;
 mod whole;
 
-use libc::STDIN_FILENO;
 use preparing::Prep;
 use shown::{shown_prep, shown_walk, started};
+use std::io;
+use std::io::{BufWriter, Write};
 use terms::PreRank;
 use trial_lines::{
-    field, front, great, line_of, numbers, numbers_into, size, text, tree_into, wide,
+    field, front, great, line_of, numbers, numbers_into, read_cases, size, text, tree_into, wide,
 };
 use walk_ranges::Phase;
 use walking::Walk;
@@ -43,81 +44,108 @@ fn phase_at(x: u16) -> Phase {
 }
 
 // A turn of walking from the walk of a case.
-fn walk_turn(v: [u16; 9], sig: &[u16], twig: &[u16], table: &[u16]) {
+fn walk_turn(
+    out: &mut impl Write,
+    v: [u16; 9],
+    sig: &[u16],
+    twig: &[u16],
+    table: &[u16],
+) -> io::Result<()> {
     let mut images = [0u16; 16];
     images[0] = v[2];
     images[1] = v[3];
     images[2] = v[4];
-    let phase = phase_at(v[7]);
     let state = Walk {
         images,
         node: v[5],
         candidate: PreRank(v[6]),
-        phase,
+        phase: phase_at(v[7]),
     };
-    shown_walk(state.turn(sig, twig, table, wide(v[8])));
+    shown_walk(out, state.turn(sig, twig, table, wide(v[8])))
 }
 
-fn prepare_turn(v: [u16; 9], sig: &[u16], twig: &[u16], table: &mut [u16]) {
+fn prepare_turn(
+    out: &mut impl Write,
+    v: [u16; 9],
+    sig: &[u16],
+    twig: &[u16],
+    table: &mut [u16],
+) -> io::Result<()> {
     let state = Prep {
         next: PreRank(v[2]),
     };
-    shown_prep(state.turn(sig, twig, table, wide(v[3])));
+    shown_prep(out, state.turn(sig, twig, table, wide(v[3])))
 }
 
 // Prints every number of the table.
-fn tabled(table: &[u16]) {
-    numbers(table);
-    text(b"\n");
+fn tabled(out: &mut impl Write, table: &[u16]) -> io::Result<()> {
+    numbers(out, table)?;
+    text(out, b"\n")
 }
 
 // A start call, with what it leaves.
-fn start(n: u64, table: &mut [u16]) {
-    started(starting::prepare_start(n, &mut *table));
-    tabled(&*table);
+fn start(out: &mut impl Write, n: u64, table: &mut [u16]) -> io::Result<()> {
+    started(out, starting::prepare_start(n, table))?;
+    tabled(out, table)
 }
 
-fn tried(v: [u16; 9], sig: &[u16], twig: &[u16], table: &mut [u16]) {
+fn tried(
+    out: &mut impl Write,
+    v: [u16; 9],
+    sig: &[u16],
+    twig: &[u16],
+    table: &mut [u16],
+) -> io::Result<()> {
     match v[0] {
-        START => start(wide(v[2]), table),
-        PREPARE => prepare(sig, twig, table, wide(v[2]), great(v[3])),
-        WALK => walk(sig, twig, &*table, v[2], wide(v[3]), v[4] == 1),
-        PREPARE_ONCE => prepare_turn(v, sig, twig, table),
-        WALK_ONCE => walk_turn(v, sig, twig, &*table),
-        _ => tabled(&*table),
+        START => start(out, wide(v[2]), table),
+        PREPARE => prepare(out, sig, twig, table, wide(v[2]), great(v[3])),
+        WALK => walk(out, sig, twig, table, v[2], wide(v[3]), v[4] == 1),
+        PREPARE_ONCE => prepare_turn(out, v, sig, twig, table),
+        WALK_ONCE => walk_turn(out, v, sig, twig, table),
+        _ => tabled(out, table),
     }
 }
 
-fn case(line: &[u8], table: &mut [u16]) {
+fn case(out: &mut impl Write, line: &[u8], table: &mut [u16]) -> io::Result<()> {
     let mut v = [0u16; 9];
     numbers_into(field(line, 1), &mut v);
     let mut sig = [0u16; 16388];
     let n = tree_into(field(line, 2), &mut sig);
     let mut twig = [0u16; 68];
     let m = tree_into(field(line, 3), &mut twig);
-    numbers_into(field(line, 4), &mut *table);
+    numbers_into(field(line, 4), table);
     if v[0] == 0 {
-        return;
+        return Ok(());
     }
-    text(field(line, 0));
+    text(out, field(line, 0))?;
     let width = size(v[1]);
     if width <= table.len() {
-        tried(v, front(&sig, n), front(&twig, m), &mut table[0..width]);
+        tried(
+            out,
+            v,
+            front(&sig, n),
+            front(&twig, m),
+            &mut table[0..width],
+        )?;
     }
+    Ok(())
 }
 
-fn each_case(lines: &[u8], table: &mut [u16]) {
+fn each_case(out: &mut impl Write, lines: &[u8], table: &mut [u16]) -> io::Result<()> {
     let mut from = 0;
     while from < lines.len() {
         let line = line_of(&lines[from..]);
-        case(line, &mut *table);
+        case(out, line, table)?;
         from += line.len() + 1;
     }
+    Ok(())
 }
 
-fn main() {
-    let mut lines = io::large_buffer();
-    let count = io::read_full(STDIN_FILENO, &mut lines);
+// A read or a write that fails ends the program with its error.
+fn main(rt: HostRuntime) -> io::Result<()> {
+    let lines = read_cases(&rt)?;
+    let mut out = BufWriter::new(rt.alloc(), rt.stdout())?;
     let mut table = [0u16; 8192];
-    each_case(&lines[..count], &mut table);
+    each_case(&mut out, lines.as_slice(), &mut table)?;
+    out.flush()
 }

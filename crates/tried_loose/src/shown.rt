@@ -1,15 +1,16 @@
 // Printing: what a turn handed back, in numbers.
 use preparing::{PrepTurn, Started};
+use std::io;
+use std::io::Write;
 use trial_lines::{number, numbers, refused, stopped, text, wide};
 use walk_ranges::Phase;
 use walking::{Walk, WalkTurn};
 
-pub fn shown_prep(turn: PrepTurn) {
-    let stop = turn.stop;
-    stopped(stop);
-    number(turn.steps);
-    number(wide(turn.state.next.0));
-    text(b"\n");
+pub fn shown_prep(out: &mut impl Write, turn: PrepTurn) -> io::Result<()> {
+    stopped(out, turn.stop)?;
+    number(out, turn.steps)?;
+    number(out, wide(turn.state.next.0))?;
+    text(out, b"\n")
 }
 
 fn phase_number(phase: Phase) -> u64 {
@@ -20,30 +21,27 @@ fn phase_number(phase: Phase) -> u64 {
     }
 }
 
-fn shown_state(walk: Walk) {
-    number(wide(walk.node));
-    number(wide(walk.candidate.0));
-    let phase = walk.phase;
-    number(phase_number(phase));
+fn shown_state(out: &mut impl Write, walk: Walk) -> io::Result<()> {
+    number(out, wide(walk.node))?;
+    number(out, wide(walk.candidate.0))?;
+    number(out, phase_number(walk.phase))?;
     let images = walk.images;
-    numbers(&images);
+    numbers(out, &images)
 }
 
-pub fn shown_walk(turn: WalkTurn) {
-    let stop = turn.stop;
-    stopped(stop);
-    number(turn.steps);
-    let walk = turn.walk;
-    shown_state(walk);
-    text(b"\n");
+pub fn shown_walk(out: &mut impl Write, turn: WalkTurn) -> io::Result<()> {
+    stopped(out, turn.stop)?;
+    number(out, turn.steps)?;
+    shown_state(out, turn.walk)?;
+    text(out, b"\n")
 }
 
-pub fn started(start: Started) {
+pub fn started(out: &mut impl Write, start: Started) -> io::Result<()> {
     match start {
         Started::Fresh(state) => {
-            text(b" fresh");
-            number(wide(state.next.0));
+            text(out, b" fresh")?;
+            number(out, wide(state.next.0))
         }
-        Started::Refused(refusal) => refused(refusal),
+        Started::Refused(refusal) => refused(out, refusal),
     }
 }

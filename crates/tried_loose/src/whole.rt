@@ -1,47 +1,59 @@
 // Whole preparations and whole walks, in turns.
 use crate::shown::shown_walk;
 use preparing::{Prep, Started};
-use std::num::wrapping_add_u64;
+use std::io;
+use std::io::Write;
 use terms::{PreRank, Stop};
 use trial_lines::{number, stop_number, stopped, text, wide};
 use walking::{Walk, WalkTurn};
 
 // Prepares the whole table in turns of budget steps.
-pub fn prepare(sig: &[u16], twig: &[u16], table: &mut [u16], n: u64, budget: u64) {
-    let start = starting::prepare_start(n, &mut *table);
+pub fn prepare(
+    out: &mut impl Write,
+    sig: &[u16],
+    twig: &[u16],
+    table: &mut [u16],
+    n: u64,
+    budget: u64,
+) -> io::Result<()> {
+    let start = starting::prepare_start(n, table);
     let Started::Fresh(fresh) = start else {
-        text(b"not started\n");
-        return;
+        return text(out, b"not started\n");
     };
-    prepare_from(sig, twig, &mut *table, fresh.next.0, budget);
+    prepare_from(out, sig, twig, table, fresh.next.0, budget)
 }
 
 // The turns from entry first on; says the last turn's stop, the sum of the steps and the state.
-fn prepare_from(sig: &[u16], twig: &[u16], table: &mut [u16], first: u16, budget: u64) {
+fn prepare_from(
+    out: &mut impl Write,
+    sig: &[u16],
+    twig: &[u16],
+    table: &mut [u16],
+    first: u16,
+    budget: u64,
+) -> io::Result<()> {
     let mut next = first;
     let mut sum: u64 = 0;
-    for i in 0..5000u16 {
-        let turn = Prep {
+    for _ in 0..5000u16 {
+        let state = Prep {
             next: PreRank(next),
-        }
-        .turn(sig, twig, &mut *table, budget);
+        };
+        let turn = state.turn(sig, twig, table, budget);
         next = turn.state.next.0;
-        sum = wrapping_add_u64(sum, turn.steps);
-        let stop = turn.stop;
-        if stop_number(stop) != 2 {
-            prepared(stop, sum, next);
-            return;
+        sum = sum.wrapping_add(turn.steps);
+        if stop_number(turn.stop) != 2 {
+            return prepared(out, turn.stop, sum, next);
         }
     }
-    text(b"too many turns\n");
+    text(out, b"too many turns\n")
 }
 
-fn prepared(stop: Stop, sum: u64, next: u16) {
-    text(b"prepared");
-    stopped(stop);
-    number(sum);
-    number(wide(next));
-    text(b"\n");
+fn prepared(out: &mut impl Write, stop: Stop, sum: u64, next: u16) -> io::Result<()> {
+    text(out, b"prepared")?;
+    stopped(out, stop)?;
+    number(out, sum)?;
+    number(out, wide(next))?;
+    text(out, b"\n")
 }
 
 // A budget of the given kind: 1 to 3 that many steps, 4 seeded, else the greatest number.
@@ -52,7 +64,7 @@ fn spend(kind: u16, seed: u64) -> u64 {
     if kind == 4 {
         return seed % 7 + 1;
     }
-    18446744073709551615
+    u64::MAX
 }
 
 fn next_seed(seed: u64) -> u64 {
@@ -70,8 +82,8 @@ struct Tally {
 
 // The tally after a turn that the number says the stop of.
 fn counted(tally: Tally, steps: u64, stop: u64) -> Tally {
-    let sum = wrapping_add_u64(tally.sum, steps);
-    let gap = wrapping_add_u64(tally.gap, steps);
+    let sum = tally.sum.wrapping_add(steps);
+    let gap = tally.gap.wrapping_add(steps);
     let answers = tally.answers;
     let most = tally.most;
     if stop == 2 {
@@ -83,7 +95,7 @@ fn counted(tally: Tally, steps: u64, stop: u64) -> Tally {
         };
     }
     Tally {
-        answers: wrapping_add_u64(answers, if stop == 0 { 1 } else { 0 }),
+        answers: answers.wrapping_add(if stop == 0 { 1 } else { 0 }),
         sum,
         gap: 0,
         most: if gap < most { most } else { gap },
@@ -102,16 +114,25 @@ fn goes_on(stop: u64, answers: u64, enough: u64) -> bool {
 }
 
 // Prints where a turn came to, if asked and unless its budget stopped it.
-fn reported(turn: WalkTurn, stop: u64, print: bool) {
+fn reported(out: &mut impl Write, turn: WalkTurn, stop: u64, print: bool) -> io::Result<()> {
     if print & (stop != 2) {
-        text(b"at");
-        shown_walk(turn);
+        text(out, b"at")?;
+        shown_walk(out, turn)?;
     }
+    Ok(())
 }
 
 // Walks from the fresh walk to the end, or to the given number of answers, in turns of the given kind. Prints the answers if asked, then what stopped
 // the last turn, the number of answers, the steps in all, and the most steps from the start or an answer to the next answer or the end, beside 2×m×n+1.
-pub fn walk(sig: &[u16], twig: &[u16], table: &[u16], kind: u16, enough: u64, print: bool) {
+pub fn walk(
+    out: &mut impl Write,
+    sig: &[u16],
+    twig: &[u16],
+    table: &[u16],
+    kind: u16,
+    enough: u64,
+    print: bool,
+) -> io::Result<()> {
     let mut state = Walk::fresh();
     let mut tally = Tally {
         answers: 0,
@@ -120,30 +141,28 @@ pub fn walk(sig: &[u16], twig: &[u16], table: &[u16], kind: u16, enough: u64, pr
         most: 0,
     };
     let mut seed: u64 = 4711;
-    for i in 0..4000000u32 {
+    for _ in 0..4000000u32 {
         seed = next_seed(seed);
         let turn = state.turn(sig, twig, table, spend(kind, seed));
-        let stop = turn.stop;
-        let how = stop_number(stop);
+        let how = stop_number(turn.stop);
         state = turn.walk;
         tally = counted(tally, turn.steps, how);
-        reported(turn, how, print);
+        reported(out, turn, how, print)?;
         if !goes_on(how, tally.answers, enough) {
-            walked(tally, stop, limit(sig.len() / 4, twig.len() / 4));
-            return;
+            return walked(out, tally, turn.stop, limit(sig.len() / 4, twig.len() / 4));
         }
     }
-    text(b"too many turns\n");
+    text(out, b"too many turns\n")
 }
 
-fn walked(tally: Tally, stop: Stop, most: u64) {
-    text(b"walked");
-    stopped(stop);
-    number(tally.answers);
-    number(tally.sum);
-    number(tally.most);
-    number(most);
-    text(b"\n");
+fn walked(out: &mut impl Write, tally: Tally, stop: Stop, most: u64) -> io::Result<()> {
+    text(out, b"walked")?;
+    stopped(out, stop)?;
+    number(out, tally.answers)?;
+    number(out, tally.sum)?;
+    number(out, tally.most)?;
+    number(out, most)?;
+    text(out, b"\n")
 }
 
 // 2×m×n+1

@@ -4,10 +4,12 @@
 // `call` one call); the signature, the twig, the tuple, and what the room holds before the call.
 #![tactic(auto)]
 
-use libc::STDIN_FILENO;
+use std::io;
+use std::io::{BufWriter, Write};
 use terms::Written;
 use trial_lines::{
-    field, front, line_of, number, numbers, numbers_into, room_left, text, told, tree_into, wide,
+    field, front, line_of, number, numbers, numbers_into, read_cases, room_left, text, told,
+    tree_into, wide,
 };
 
 // What is tried, as words of a line.
@@ -23,98 +25,109 @@ struct Given {
 }
 
 // The answer after a tuple, printed.
-fn one_more(sig: &[u16], twig: &[u16], tuple: [u16; 16]) -> Given {
+fn one_more(
+    out: &mut impl Write,
+    sig: &[u16],
+    twig: &[u16],
+    tuple: [u16; 16],
+) -> io::Result<Given> {
     let mut room = [0u16; 16];
     let m = twig.len() / 4;
     let answer = ordered::ordered_next(sig, twig, front(&tuple, m), &mut room);
     match answer {
         Written::Length(len) => {
             if len == 0 {
-                text(b"none\n");
-                return Given { tuple, more: false };
+                text(out, b"none\n")?;
+                return Ok(Given { tuple, more: false });
             }
-            numbers(front(&room, len));
-            text(b"\n");
-            Given {
+            numbers(out, front(&room, len))?;
+            text(out, b"\n")?;
+            Ok(Given {
                 tuple: room,
                 more: true,
-            }
+            })
         }
         Written::Refused(_) => {
-            text(b"refused\n");
-            Given { tuple, more: false }
+            text(out, b"refused\n")?;
+            Ok(Given { tuple, more: false })
         }
     }
 }
 
 // Every answer from zeros on, each handed back; no tree tried here has 100.
-fn listed(sig: &[u16], twig: &[u16]) {
+fn listed(out: &mut impl Write, sig: &[u16], twig: &[u16]) -> io::Result<()> {
     let mut tuple = [0u16; 16];
-    for i in 0..100u16 {
-        let given = one_more(sig, twig, tuple);
+    for _ in 0..100u16 {
+        let given = one_more(out, sig, twig, tuple)?;
         if !given.more {
-            return;
+            return Ok(());
         }
-        let next = given.tuple;
-        tuple = next;
+        tuple = given.tuple;
     }
-    text(b"more\n");
+    text(out, b"more\n")
 }
 
 // What follows a tuple of two numbers.
-fn after(sig: &[u16], twig: &[u16], a: u16, b: u16) {
+fn after(out: &mut impl Write, sig: &[u16], twig: &[u16], a: u16, b: u16) -> io::Result<()> {
     let tuple = [a, b];
     let mut room = [0u16; 2];
-    numbers(&tuple);
-    text(b" :");
+    numbers(out, &tuple)?;
+    text(out, b" :")?;
     let answer = ordered::ordered_next(sig, twig, &tuple, &mut room);
     match answer {
-        Written::Length(len) => numbers(front(&room, len)),
+        Written::Length(len) => numbers(out, front(&room, len))?,
         Written::Refused(refusal) => {
-            number(wide(refusal.number));
-            text(b" refused");
+            number(out, wide(refusal.number))?;
+            text(out, b" refused")?;
         }
     }
-    text(b"\n");
+    text(out, b"\n")
 }
 
-fn all_pairs(sig: &[u16], twig: &[u16]) {
+fn all_pairs(out: &mut impl Write, sig: &[u16], twig: &[u16]) -> io::Result<()> {
     for i in 0..49u16 {
-        after(sig, twig, i / 7, i % 7);
+        after(out, sig, twig, i / 7, i % 7)?;
     }
+    Ok(())
 }
 
 // What one call says, with the room that it leaves.
-fn asked(sig: &[u16], twig: &[u16], tuple: &[u16], room: &mut [u16]) {
-    told(ordered::ordered_next(sig, twig, tuple, &mut *room));
-    room_left(&*room);
+fn asked(
+    out: &mut impl Write,
+    sig: &[u16],
+    twig: &[u16],
+    tuple: &[u16],
+    room: &mut [u16],
+) -> io::Result<()> {
+    told(out, ordered::ordered_next(sig, twig, tuple, room))?;
+    room_left(out, room)
 }
 
-fn one_call(line: &[u8], sig: &[u16], twig: &[u16]) {
+fn one_call(out: &mut impl Write, line: &[u8], sig: &[u16], twig: &[u16]) -> io::Result<()> {
     let mut tuple = [0u16; 16];
     let len = numbers_into(field(line, 4), &mut tuple);
     let mut room = [0u16; 17];
     let width = numbers_into(field(line, 5), &mut room);
     if width <= 17 {
-        asked(sig, twig, front(&tuple, len), &mut room[0..width]);
+        asked(out, sig, twig, front(&tuple, len), &mut room[0..width])?;
     }
+    Ok(())
 }
 
-fn tried(line: &[u8], how: u16, sig: &[u16], twig: &[u16]) {
-    text(field(line, 0));
+fn tried(out: &mut impl Write, line: &[u8], how: u16, sig: &[u16], twig: &[u16]) -> io::Result<()> {
+    text(out, field(line, 0))?;
     if how == CALL {
-        one_call(line, sig, twig);
-        return;
+        return one_call(out, line, sig, twig);
     }
-    text(b"\n");
+    text(out, b"\n")?;
     if how == PAIRS {
-        all_pairs(sig, twig);
+        all_pairs(out, sig, twig)
     } else {
-        listed(sig, twig);
+        listed(out, sig, twig)
     }
 }
 
-fn case(line: &[u8]) {
+fn case(out: &mut impl Write, line: &[u8]) -> io::Result<()> {
     let mut v = [0u16; 1];
     numbers_into(field(line, 1), &mut v);
     let mut sig = [0u16; 16384];
@@ -122,21 +135,25 @@ fn case(line: &[u8]) {
     let mut twig = [0u16; 64];
     let m = tree_into(field(line, 3), &mut twig);
     if 0 < v[0] {
-        tried(line, v[0], front(&sig, n), front(&twig, m));
+        tried(out, line, v[0], front(&sig, n), front(&twig, m))?;
     }
+    Ok(())
 }
 
-fn each_case(lines: &[u8]) {
+fn each_case(out: &mut impl Write, lines: &[u8]) -> io::Result<()> {
     let mut from = 0;
     while from < lines.len() {
         let line = line_of(&lines[from..]);
-        case(line);
+        case(out, line)?;
         from += line.len() + 1;
     }
+    Ok(())
 }
 
-fn main() {
-    let mut lines = io::large_buffer();
-    let count = io::read_full(STDIN_FILENO, &mut lines);
-    each_case(&lines[..count]);
+// A read or a write that fails ends the program with its error.
+fn main(rt: HostRuntime) -> io::Result<()> {
+    let lines = read_cases(&rt)?;
+    let mut out = BufWriter::new(rt.alloc(), rt.stdout())?;
+    each_case(&mut out, lines.as_slice())?;
+    out.flush()
 }

@@ -1,6 +1,8 @@
 // The bytes that are read: those of a line, or the records or the tag list of a large tree.
 ghost use Rattle.std.specs.Prelude.{◌≤◌};
 
+use std::io;
+use std::io::Write;
 use trial_lines::{number, numbers_into, size, text};
 
 // What is made, as words of a line.
@@ -95,11 +97,10 @@ fn wide(x: u8) -> u64 {
 }
 
 // The bytes that a writing leaves in its room.
-pub fn octets(room: &[u8]) {
-    text(b" room");
-    let mut i = 0;
-    while i < room.len() {
-        number(wide(room[i]));
-        i += 1;
+pub fn octets(out: &mut impl Write, room: &[u8]) -> io::Result<()> {
+    text(out, b" room")?;
+    for octet in room {
+        number(out, wide(*octet))?;
     }
+    Ok(())
 }

@@ -8,13 +8,14 @@
 
 mod lists;
 
-use libc::STDIN_FILENO;
 use lists::{bytes_into, front_bytes, octets};
+use std::io;
+use std::io::{BufWriter, Write};
 use tag_lists::TreeRead;
 use terms::{Kind, Written};
 use trial_lines::{
-    field, front, kind_of, line_of, number, numbers, numbers_into, refused, room_left, size, text,
-    told, tree_into,
+    field, front, kind_of, line_of, number, numbers, numbers_into, read_cases, refused, room_left,
+    size, text, told, tree_into,
 };
 
 // What is tried, as words of a line.
@@ -24,28 +25,27 @@ const RECORDS: u16 = 114;
 
 const ONE: u16 = 111;
 
-fn told_tree(answer: TreeRead) {
+fn told_tree(out: &mut impl Write, answer: TreeRead) -> io::Result<()> {
     match answer {
         TreeRead::Tree(len, end) => {
-            told(Written::Length(len));
-            text(b" end");
-            number(end as u64);
+            told(out, Written::Length(len))?;
+            text(out, b" end")?;
+            number(out, end as u64)
         }
-        TreeRead::Refused(refusal) => refused(refusal),
+        TreeRead::Refused(refusal) => refused(out, refusal),
     }
 }
 
 // What the room holds: all of it, nothing, or what stands from a place on.
-fn left(room: &[u16], from: usize) {
+fn left(out: &mut impl Write, room: &[u16], from: usize) -> io::Result<()> {
     if from == 0 {
-        room_left(room);
-        return;
+        return room_left(out, room);
     }
     if from < room.len() {
-        text(b" then");
-        numbers(&room[from..]);
+        text(out, b" then")?;
+        numbers(out, &room[from..])?;
     }
-    text(b"\n");
+    text(out, b"\n")
 }
 
 // A place in the bytes: 65,535 stands for one that no list reaches.
@@ -57,80 +57,94 @@ fn place(x: u16) -> usize {
     }
 }
 
-fn read(v: [u16; 7], bytes: &[u8], room: &mut [u16]) {
+fn read(out: &mut impl Write, v: [u16; 7], bytes: &[u8], room: &mut [u16]) -> io::Result<()> {
     match v[1] {
-        RECORDS => told(records::read_records(bytes, room)),
-        ONE => told_tree(tag_lists::read_tree(Kind::Data, bytes, place(v[3]), room)),
-        _ => told(tag_lists::tags_to_signature(kind_of(v[1]), bytes, room)),
+        RECORDS => told(out, records::read_records(bytes, room)),
+        ONE => told_tree(
+            out,
+            tag_lists::read_tree(Kind::Data, bytes, place(v[3]), room),
+        ),
+        _ => told(
+            out,
+            tag_lists::tags_to_signature(kind_of(v[1]), bytes, room),
+        ),
     }
 }
 
-fn read_in(v: [u16; 7], bytes: &[u8], room: &mut [u16]) {
-    read(v, bytes, &mut *room);
-    left(&*room, size(v[4]));
+fn read_in(out: &mut impl Write, v: [u16; 7], bytes: &[u8], room: &mut [u16]) -> io::Result<()> {
+    read(out, v, bytes, room)?;
+    left(out, room, size(v[4]))
 }
 
-fn reading(v: [u16; 7], list: &[u8]) {
+fn reading(out: &mut impl Write, v: [u16; 7], list: &[u8]) -> io::Result<()> {
     let mut bytes = [0u8; 40970];
     let len = bytes_into(v, list, &mut bytes);
     let mut room = [9u16; 16390];
     let width = size(v[2]);
     if width <= 16390 {
-        read_in(v, front_bytes(&bytes, len), &mut room[0..width]);
+        read_in(out, v, front_bytes(&bytes, len), &mut room[0..width])?;
     }
+    Ok(())
 }
 
-fn write(form: u16, sig: &[u16], room: &mut [u8]) {
+fn write(out: &mut impl Write, form: u16, sig: &[u16], room: &mut [u8]) -> io::Result<()> {
     if form == RECORDS {
-        told(record_writing::write_records(sig, room));
+        told(out, record_writing::write_records(sig, room))
     } else {
-        told(tag_writing::signature_to_tags(kind_of(form), sig, room));
+        told(
+            out,
+            tag_writing::signature_to_tags(kind_of(form), sig, room),
+        )
     }
 }
 
-fn write_in(v: [u16; 7], sig: &[u16], room: &mut [u8]) {
-    write(v[1], sig, &mut *room);
+fn write_in(out: &mut impl Write, v: [u16; 7], sig: &[u16], room: &mut [u8]) -> io::Result<()> {
+    write(out, v[1], sig, room)?;
     if v[4] == 0 {
-        octets(&*room);
+        octets(out, room)?;
     }
-    text(b"\n");
+    text(out, b"\n")
 }
 
-fn writing(v: [u16; 7], list: &[u8]) {
+fn writing(out: &mut impl Write, v: [u16; 7], list: &[u8]) -> io::Result<()> {
     let mut sig = [0u16; 16388];
     let len = tree_into(list, &mut sig);
     let mut room = [9u8; 40970];
     let width = size(v[2]);
     if width <= 40970 {
-        write_in(v, front(&sig, len), &mut room[0..width]);
+        write_in(out, v, front(&sig, len), &mut room[0..width])?;
     }
+    Ok(())
 }
 
-fn case(line: &[u8]) {
+fn case(out: &mut impl Write, line: &[u8]) -> io::Result<()> {
     let mut v = [0u16; 7];
     numbers_into(field(line, 1), &mut v);
     if v[0] == 0 {
-        return;
+        return Ok(());
     }
-    text(field(line, 0));
+    text(out, field(line, 0))?;
     if v[0] == READ {
-        reading(v, field(line, 2));
+        reading(out, v, field(line, 2))
     } else {
-        writing(v, field(line, 2));
+        writing(out, v, field(line, 2))
     }
 }
 
-fn each_case(lines: &[u8]) {
+fn each_case(out: &mut impl Write, lines: &[u8]) -> io::Result<()> {
     let mut from = 0;
     while from < lines.len() {
         let line = line_of(&lines[from..]);
-        case(line);
+        case(out, line)?;
         from += line.len() + 1;
     }
+    Ok(())
 }
 
-fn main() {
-    let mut lines = io::large_buffer();
-    let count = io::read_full(STDIN_FILENO, &mut lines);
-    each_case(&lines[..count]);
+// A read or a write that fails ends the program with its error.
+fn main(rt: HostRuntime) -> io::Result<()> {
+    let lines = read_cases(&rt)?;
+    let mut out = BufWriter::new(rt.alloc(), rt.stdout())?;
+    each_case(&mut out, lines.as_slice())?;
+    out.flush()
 }
