@@ -92,6 +92,9 @@ walk_back_law w h = by w.phase
     by Phase.Answer = ap (λ (l : List ℕ). walking.at l w.node w.candidate.0 Phase.Answer) (sixteen_whole w.images h)
     by Phase.Ended = ap (λ (l : List ℕ). walking.at l w.node w.candidate.0 Phase.Ended) (sixteen_whole w.images h)
 
+phase_back : (k : ℕ) → k ≤ 2 → phase_number (phase_of k) ≡ k
+phase_back k l = third_back phase_number Phase.Walking Phase.Answer Phase.Ended refl refl refl k l
+
 -- a phase of at most 2 stands for a walk
 pub walk_read : (l : List ℕ) → get_or l 18 0 ≤ 2 → walk_of l ≡ walking.at (sixteen l []) (get_or l 16 0) (get_or l 17 0) (phase_of (get_or l 18 0))
 walk_read l p = simp (le-ltb 2 (get_or l 18 0) p)
@@ -99,7 +102,7 @@ walk_read l p = simp (le-ltb 2 (get_or l 18 0) p)
 pub walk_numbers_back : (l : List ℕ) → length l ≡ 19 → get_or l 18 0 ≤ 2 → walk_numbers (walk_of l) ≡ l
 walk_numbers_back l h p =
     ap walk_numbers (walk_read l p)
-    ∙ ap (λ (x : ℕ). sixteen l (get_or l 16 0 ∷ get_or l 17 0 ∷ x ∷ [])) (third_back phase_number Phase.Walking Phase.Answer Phase.Ended refl refl refl (get_or l 18 0) p)
+    ∙ ap (λ (x : ℕ). sixteen l (get_or l 16 0 ∷ get_or l 17 0 ∷ x ∷ [])) (phase_back (get_or l 18 0) p)
     ∙ nineteen_whole l h
 
 -- that a walk has sixteen images is its type; here it follows from how it is read

@@ -26,7 +26,7 @@ use Rattle.terms.specs.Stops.{halt_told, Told}
 use Rattle.terms.specs.Room.{refused_left, room_for}
 use Rattle.checking.specs.Whole.{whole_of}
 use Rattle.checked.specs.Menus.{five, tarts, fork, pair}
-use Rattle.ordering.specs.Twig.{bad_end, end_of as ff_of, child_of, next_of}
+use Rattle.ordering.specs.Twig.{bad_end as ff_bad, end_of as ff_of, child_of, next_of}
 use Rattle.ordering.specs.Table.{index, ends_in, stands_in, one_of}
 use Rattle.ordering.specs.Next.{ranks, tuples, placed_test, later_test, answer_test, smaller_test, first_of, next_answer}
 use Rattle.ordered.specs.Promise.{ordered_of}
@@ -91,7 +91,7 @@ module _ (s w g room : List ℕ) where
 
 fit_numbered : (n : ℕ) (e : Entries) (m : ℕ) (w : Entries) (st : Fitting) → NumberedStep (fit_step n e m w st)
 unfolding fit_step
-fit_numbered n e m w st = by (bad_end n e st.entry) _
+fit_numbered n e m w st = by (ff_bad n e st.entry) _
   where
     by : (c : Bool) (to : Fitting) → NumberedStep (pick c (refused 11 0) (moved to))
     by true to = omega arith
@@ -203,7 +203,7 @@ five_fits = fit_turn_of five pair 10 (rule.at 2 5 Stage.Asking (replicate 10 7))
 
 fits_answers : (halt_told (fit_halt five_fits.state.stage five_fits.halt)).reason ≡ 0
 unfolding run turn_within length_fault in_range check.step_of close_of nameless second_root accepted cell passes
-    given_of ready_for begun_for ff_of child_of next_of index ends_in stands_in one_of rule.in_range place_fits bad_end is_yes goes_on fit_step
+    given_of ready_for begun_for ff_of child_of next_of index ends_in stands_in one_of rule.in_range place_fits ff_bad is_yes goes_on fit_step
 fits_answers = refl
 
 pub five_fits_zero : (r : ℕ) (after state out : List ℕ) → FitsTurnPromise five pair (replicate 10 7) (2 ∷ 5 ∷ 0 ∷ []) 10 r after state out → r ≡ 0

@@ -26,11 +26,16 @@ use Rattle.checked.specs.Apart.{halt_of, halt_of_law, told_apart, told_halt, hal
 use Rattle.preparing.specs.declared.Prep.{Prep}
 use Rattle.preparing.specs.declared.PrepTurn.{PrepTurn}
 use Rattle.preparing.specs.declared.Started.{Started}
-use Rattle.twig_turns.specs.Given.{given_of, table_width}
+use Rattle.twig_turns.specs.Given.{given_of, begun, refused_for, table_width}
 use Rattle.preparing.specs.Preparing.{Preparing, prepared, prep_step, bad_parent, step_table}
 use Rattle.preparing.specs.PrepTurn.{cleared, start_fault, start_told, Fresh, StartPromise, preparing, prep_in_range, prep_run, prep_turn_of, PrepHanded, PrepPromise}
-use Rattle.twig_turns.proofs.Judged.{begun_run, begun_judged}
+use Rattle.twig_turns.proofs.Judged.{begun_early, begun_run, begun_judged}
 use Rattle.preparing.proofs.PrepCases.{table_length, start_empty}
+
+-- the twig or the signature's length refuses
+pub early : {S : Type 0} (sig twig : List ℕ) (room : ℕ) (st : S) (fits : Bool) (run : Turned S) → ((given_of sig twig).reason ≡ 1 → ⊥)
+    → begun sig twig room st fits run ≡ refused_for st (given_of sig twig)
+early sig twig room st fits run h = begun_early (table_width * entries sig) sig twig room st fits run h
 
 -- ---- the code's answers and the turn that they tell
 

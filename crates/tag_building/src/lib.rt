@@ -66,7 +66,7 @@ fn build_tree(
     own: &mut [u16],
 ) -> Judged
     requires { (most ≤ 4096) × (width * most ≤ length own.old) }
-    ensures { BuiltPromise «whole» any_name most bytes.now from own.old result.fault result.at result.count own.new }
+    ensures { BuiltPromise whole any_name most bytes.now from own.old result.fault result.at result.count own.new }
 {
     let mut at = from;
     let mut count: u16 = 0;
@@ -114,7 +114,7 @@ fn give_front(own: &[u16], len: usize, room: &mut [u16]) -> u16
 // Reads one tree from a place on, to the end of the bytes or to the close of its root. It builds the signature beside the room, so that a refusal at any tag
 // leaves the room alone.
 pub fn read_tags(kind: Kind, bytes: &[u8], whole: bool, from: usize, room: &mut [u16]) -> Judged
-    ensures { FilledPromise «whole» kind bytes.now from room.old result.fault result.at (4 * result.count) room.new }
+    ensures { FilledPromise whole kind bytes.now from room.old result.fault result.at (4 * result.count) room.new }
 {
     let any_name = kind.any_name();
     let most = kind.most();

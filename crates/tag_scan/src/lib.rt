@@ -32,7 +32,7 @@ fn is_root_closed(depth: u16, count: u16) -> bool
 
 // The first fault of an `OP` record that is not cut, or 0.
 fn first_fault(nameless: bool, misnested: bool, over: bool) -> u16
-    ensures { result ≡ first_fault false false false «nameless» «misnested» «over» }
+    ensures { result ≡ first_fault false false false nameless misnested over }
 {
     if nameless {
         terms::NAMELESS
