@@ -1,6 +1,6 @@
 -- On the entries of a tree, the axes over ranks say what the axes on its elements say.
 --   Says b A            the test b holds exactly if A does
---   says_and, -or, -not tests put together
+--   says_and, _or, _not   tests put together
 --   says_…              each relation
 --   axis_says           all eleven axes
 --   kept_says           with name test and position
