@@ -1,7 +1,7 @@
 -- Which case of a definition holds under which facts.
 --   ancestor_is, before_is   two tests of the axes, by ff
---   self-…, chosen-…   the tests of the axes
---   axis-…       which test an axis is
+--   self_…, chosen_…   the tests of the axes
+--   axis_…       which test an axis is
 use Prim.Native.Nat.{ℕ, ◌≤◌, ◌<◌}
 use mathlib.Core.Path.{◌≡◌, ap, ◌∙◌, sym}
 use mathlib.Core.Logic.{⊎_elim}

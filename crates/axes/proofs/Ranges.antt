@@ -1,9 +1,9 @@
 -- Which ranks are on an axis, by the ranks where it begins and ends.
---   same_truth, between-…    two tests that hold together; a rank between two others
+--   same_truth, between_…    two tests that hold together; a rank between two others
 --   less_fits, less_is       one less, or 0, as the code has it
---   on-…                     the axes with every rank of a range
+--   on_…                     the axes with every rank of a range
 --   row_child, row_later, row_earlier   the axes of children and of siblings: the ranks of a range that have one parent
---   before-…, none_before    the search over what precedes a context: the count, the rank at which it comes to p, none
+--   before_…, none_before    the search over what precedes a context: the count, the rank at which it comes to p, none
 use Prim.Native.Nat.{ℕ, ◌+◌, ◌-◌, ◌≤◌, ◌<◌}
 use mathlib.Core.Path.{◌≡◌, refl, ap, ◌∙◌, sym}
 use mathlib.Core.Logic.{◌⊎◌, inl, inr}

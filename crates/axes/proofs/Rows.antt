@@ -2,7 +2,7 @@
 --   next_child, only_child    the next element of a row; none of the row is below another
 --   row_on, row_early, row_late, row_gap   which ranks are in the row
 --   row_next                  the row after one more element
---   met-…, none_left          the count at the next rank, the rank at which it comes to p, the count past its block; no rank is found
+--   met_…, none_left          the count at the next rank, the rank at which it comes to p, the count past its block; no rank is found
 --   begun_child, begun_later, begun_earlier   the rows that the code searches
 --   row_low, row_high         the row of a context ends within the entries
 use Prim.Native.Nat.{ℕ, ◌+◌, ◌-◌, ◌≤◌, ◌<◌}

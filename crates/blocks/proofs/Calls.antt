@@ -1,9 +1,9 @@
 -- What the calls have in common: the whole check first, then the arguments.
 --   ready_of          what an accepted signature gives
 --   after_accepted, after_refused   which case of after_check holds
---   rank-…            whether a rank is one of an entry
---   level-…, place-…  which case of an answer holds
---   part-…            the part that a place tells
+--   rank_…            whether a rank is one of an entry
+--   level_…, place_…  which case of an answer holds
+--   part_…            the part that a place tells
 use Prim.Native.Nat.{ℕ, ◌+◌, ◌*◌, ◌≤◌, ◌<◌}
 use native.Mathlib.Omega.{arith}
 use mathlib.Core.Path.{◌≡◌, refl, ap, ◌∙◌, sym, subst}

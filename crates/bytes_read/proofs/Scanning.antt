@@ -1,7 +1,7 @@
 -- A reader's loop: what is left of the scan at each record, and what it comes to.
 --   step_passed, step_refused   one record
 --   Going                       the scan from the start is what is left of it from here
---   going-…                     it begins so, goes on so, and ends or refuses so
+--   going_…                     it begins so, goes on so, and ends or refuses so
 --   scan_comes                  a scan has passed faultless records, to its end or to a faulty one
 --   scan_ended                  passed to the end, a scan is at its end
 use Prim.Native.Nat.{ℕ, zero, suc, ◌+◌, ◌-◌, ◌*◌, ◌≤◌, ◌<◌}

@@ -9,8 +9,8 @@
 --   five_listed, five_once    those are all loose answers; every chain of calls to the end takes 14 steps
 --   five_step, five_on, five_first, five_from_start, five_from_answer   the limit, from the fresh walk's numbers and from an answer's
 --   five_saved, five_nowhere  a call with nothing to spend leaves the numbers of a walk; any call those that stand for no walk
---   …-written                 what a call leaves is the state after the steps in out
---   …-cut, …-kept            calls cut in two, and calls that a larger budget does not change
+--   …_written                 what a call leaves is the state after the steps in out
+--   …_cut, …_kept            calls cut in two, and calls that a larger budget does not change
 use Rattle.std.specs.Prelude.{ℕ, ◌≤◌, ◌<◌, ◌≡◌, refl, ◌⊎◌, false, List, [], ◌∷◌, ◌++◌, get_or, replicate}
 use Rattle.std.proofs.Common.{ap, ◌∙◌, sym, arith}
 use Rattle.turns.specs.Turn.{run, Steps}

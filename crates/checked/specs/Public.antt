@@ -3,7 +3,7 @@
 --   step_as_written        the state handed back is the one after exactly the steps returned, by the written rule
 --   handed_back_in_range   from a state in range the state handed back is in range, after a refusal too
 --   stops_before_the_fault     a refused turn stands before the step that the rule refuses, and its budget would have paid for it
---   cut_anywhere, cut_kept a turn of a + b steps is one of a and then one of b, unless it stopped
+--   cut_anywhere, cut_kept  a turn of a + b steps is one of a and then one of b, unless it stopped
 --   count_unique           no two counts join the same two states
 --   Open, Depth, fresh_depth, moves_depth   how many elements are open: with those closed, all but the next entry
 --   refused_early          a check refused at a step has taken fewer than 2×n steps

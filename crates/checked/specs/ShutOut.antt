@@ -3,7 +3,7 @@
 --   TurnsTwo k call          so do turns, however they are cut
 --   DemandThree k call       each turn is what document 01 says of a turn of the written rule
 --   ours_two, ours_turns, ours_three   whatever keeps our promises meets them
---   shut-out-…               refusing everything, accepting everything, a turn that does nothing, all the work in the first turn,
+--   shut_out_…               refusing everything, accepting everything, a turn that does nothing, all the work in the first turn,
 --                            an invented step count
 use Rattle.std.specs.Prelude.{ℕ, zero, suc, ◌≡◌, refl, ◌⊎◌, Bool, true, false, ◌&&◌, List, [], ◌∷◌, ltb}
 use Rattle.std.proofs.Common.{ap, ◌∙◌, sym, subst, inl, inr, arith, ltb-true}

@@ -1,9 +1,9 @@
 -- Which case of the written rule holds under which facts.
---   close-…        rules 3 and 4
---   nameless-…, root-…   the two tests
---   step-…         the whole step
---   accepted-…     the end
---   range-…        the ranges of a saved state; fresh_ranges
+--   close_…        rules 3 and 4
+--   nameless_…, root_…   the two tests
+--   step_…         the whole step
+--   accepted_…     the end
+--   range_…        the ranges of a saved state; fresh_ranges
 --   entry_ends     where an entry ends
 use Prim.Native.Nat.{ℕ, zero, suc, ◌+◌, ◌-◌, ◌*◌, ◌≤◌, ◌<◌}
 use native.Mathlib.Nat.{not-suc-le-zero, mul-suc}

@@ -1,11 +1,11 @@
 -- The step of the check in plain numbers: which case holds under which facts, and that it is a step of the written rule.
---   number-…               what a step comes to, by its number and entry
---   fault-…, opened-…      rule 1, and rule 2
+--   number_…               what a step comes to, by its number and entry
+--   fault_…, opened_…      rule 1, and rule 2
 --   close_taken, close_some   a close that is not refused
---   close_names, names-…   the entry that a refused close names
+--   close_names, names_…   the entry that a refused close names
 --   step_entry, step_opens, step_closes   the step by rule 1, by rule 2, or by the others
 --   step_shuts, step_close   a step that closes, and one that is refused there
---   stuck-…                steps that are refused
+--   stuck_…                steps that are refused
 use Prim.Native.Nat.{ℕ, ◌+◌, ◌-◌, ◌≤◌, ◌<◌}
 use native.Mathlib.Omega.{arith}
 use native.Mathlib.Decide.{ℕ_discrete}

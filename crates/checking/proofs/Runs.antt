@@ -1,6 +1,6 @@
 -- Runs of the check: a turn keeps the ranges, and the whole check is never stopped by its budget.
 --   moves_ranges, moves_grow    steps keep the ranges, and each makes next + closed one more
---   turn-…                      which case of a turn holds under which facts
+--   turn_…                      which case of a turn holds under which facts
 --   whole_stops                 the whole check ends or refuses
 use Prim.Native.Nat.{ℕ, ◌+◌, ◌*◌, ◌/◌, ◌≤◌, ◌<◌}
 use mathlib.Core.Path.{◌≡◌, refl, ap, sym}

@@ -1,5 +1,5 @@
 -- How a turn of the check starts and stops, in plain numbers.
---   told-…                 a stop reason by its numbers
+--   told_…                 a stop reason by its numbers
 --   reaches_as, halted_as  what is reached, of equal turns
 --   start_sized            what a length that is not refused is
 use Prim.Native.Nat.{ℕ, ◌/◌, ◌%◌, ◌≤◌}

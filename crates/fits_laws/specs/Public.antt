@@ -5,8 +5,8 @@
 --   one_result             two results that the promise allows are equal, and so is what they leave in the room
 --   step_as_written        the state and the room handed back are those after exactly the steps returned, by the written rule
 --   handed_back_in_range   from a state in range the state handed back is in range, after a refusal too
---   stops_before_the_fault a turn refused at a step stands before that step, and its budget would have paid for it
---   cut_anywhere, cut_kept a turn of a + b steps is one of a and then one of b, unless it stopped
+--   stops_before_the_fault  a turn refused at a step stands before that step, and its budget would have paid for it
+--   cut_anywhere, cut_kept  a turn of a + b steps is one of a and then one of b, unless it stopped
 --   count_exact, count_unique   the steps between two states are the difference of what is left at each
 --   told_stays             a question that was told is handed back as it was given, with the same stop at every budget
 --   stage_apart            the numbers of a stage tell it apart

@@ -2,7 +2,7 @@
 --   Starter, Began      any start call, and what it answers and leaves
 --   StartTwo call       it hands back n and clears just the 2×n numbers where it can; elsewhere it refuses, and writes nothing
 --   ours_start          whatever keeps our promise meets it
---   shut-out-start-…    refusing everything, one fixed answer, clearing nothing, never refusing
+--   shut_out_start_…    refusing everything, one fixed answer, clearing nothing, never refusing
 use Rattle.std.specs.Prelude.{ℕ, zero, suc, ◌*◌, ◌≤◌, ◌<◌, ◌≡◌, refl, List, [], ◌∷◌, eqb, length, get_or}
 use Rattle.std.proofs.Common.{ap, ◌∙◌, sym, arith, eq-eqb, ne_eqb}
 use Rattle.std.proofs.Math.Decide.{ℕ_discrete}

@@ -1,12 +1,12 @@
 -- The loose question as a walk: the range of a node is the block below its parent's image, and a candidate is tested by node and entry.
 --   parent_of w xs      the image of the next node's twig parent, by the images set before it
 --   end_after n e w xs  one past the range of the next node
---   choices n e w pass the walk, where pass tests a candidate for a node
+--   choices n e w pass  the walk, where pass tests a candidate for a node
 --   loose_answers n m e w   all loose answers, ascending, in twig preorder: by names alone, so that no table is named
 --   choices_plain      it goes by ones
 --   NodeFits           what the walk asks of one node's image
 --   end_high           the range of the next node ends at n+1 or before
---   nodes_of, of_nodes the images are in range exactly if each node's is
+--   nodes_of, of_nodes  the images are in range exactly if each node's is
 use Prim.Native.Nat.{ℕ, suc, ◌+◌, ◌≤◌, ◌<◌}
 use Rattle.std.specs.Prelude.{◌≡◌, Bool, true, length}
 use Rattle.std.proofs.Math.Path.{refl}

@@ -1,6 +1,6 @@
 -- Input that is not refused is a question: its two trees are accepted, and the table is prepared.
 --   Question b        b is bytes, not too long, and neither of its lists is refused
---   question_accepted the whole check accepts both signatures
+--   question_accepted  the whole check accepts both signatures
 --   table_prepared    start call and one turn of preparing come to the end
 use Rattle.std.specs.Prelude.{ℕ, ◌+◌, ◌*◌, ◌≤◌, ◌<◌, ◌≡◌, ◌⊎◌, Bool, true, false, List, length, drop, replicate}
 use Rattle.std.proofs.Math.Path.{refl}

@@ -1,10 +1,10 @@
 -- Preparing at the public calls, over their promises, for any signature, twig, table and state.
---   refused_writes_nothing the start call, where it refuses
+--   refused_writes_nothing  the start call, where it refuses
 --   one_start, one_result  two results that a promise allows are equal, and so is what they leave in the table
 --   step_as_written        the state and the table handed back are those after exactly the steps returned, by the written rule
 --   handed_back_in_range   from a state in range the state handed back is in range, after a refusal too
---   stops_before_the_fault a turn refused at a step stands before that step, and its budget would have paid for it
---   cut_anywhere, cut_kept a turn of a + b steps is one of a and then one of b, unless it stopped
+--   stops_before_the_fault  a turn refused at a step stands before that step, and its budget would have paid for it
+--   cut_anywhere, cut_kept  a turn of a + b steps is one of a and then one of b, unless it stopped
 --   count_unique           no two counts join the same two states
 use Rattle.std.specs.Prelude.{ℕ, ◌+◌, ◌-◌, ◌*◌, ◌≤◌, ◌<◌, refl, List, Bool, length, eqb}
 use Rattle.std.proofs.Math.Path.{◌≡◌}

@@ -2,8 +2,8 @@
 --   one_result             two results that the promise allows are equal
 --   step_as_written        the walk handed back is the one after exactly the steps returned, by the written rule
 --   handed_back_in_range   from a walk in range the walk handed back is in range, after a refusal too
---   stops_before_the_fault a turn refused at a step stands before that step, and its budget would have paid for it
---   cut_anywhere, cut_kept a turn of a + b steps is one of a and then one of b, unless it stopped
+--   stops_before_the_fault  a turn refused at a step stands before that step, and its budget would have paid for it
+--   cut_anywhere, cut_kept  a turn of a + b steps is one of a and then one of b, unless it stopped
 --   count_unique           no two counts join the same two walks, on any signature and table
 use Rattle.std.specs.Prelude.{ℕ, ◌+◌, ◌*◌, ◌≤◌, ◌≡◌, refl, List, true, length}
 use Rattle.std.proofs.Common.{ap, ◌∙◌, sym, subst, inl, inr}

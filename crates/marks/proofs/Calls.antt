@@ -1,6 +1,6 @@
 -- Which case of an axis call's answer holds.
---   fine-…            which arguments are not refused
---   within-…, room-…  which case of an answer holds
+--   fine_…            which arguments are not refused
+--   within_…, room_…  which case of an answer holds
 --   leaves_as, refused_leaves   what an equal answer leaves; what a refusal leaves
 --   short_leaves, fits_leaves   what is left where the marked ranks are too many for the room, and where they fit
 use Prim.Native.Nat.{ℕ, ◌≤◌, ◌<◌}

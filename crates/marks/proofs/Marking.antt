@@ -3,9 +3,9 @@
 --   count_yes, count_no   one more rank counted
 --   write_yes, write_no   one more rank written
 --   marks_none            no rank has a mark
---   lesser-…              which number is the lesser
+--   lesser_…              which number is the lesser
 --   Over                  the marks of the ranks that are done
---   over-…                none, one more, all
+--   over_…                none, one more, all
 use Prim.Native.Nat.{ℕ, ◌+◌, ◌-◌, ◌≤◌, ◌<◌}
 use mathlib.Core.Path.{◌≡◌, ap, ◌∙◌, sym}
 use mathlib.Core.Logic.{⊎_elim}

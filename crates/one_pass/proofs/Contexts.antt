@@ -1,7 +1,7 @@
 -- Marking for one context after the other.
 --   marked_set     one more rank has a mark
 --   Each           what is marked for the first k contexts
---   each-…         none, one more, all
+--   each_…         none, one more, all
 use Prim.Native.Nat.{ℕ, ◌+◌, ◌≤◌, ◌<◌}
 use mathlib.Core.Path.{◌≡◌, ap, ◌∙◌, sym}
 use mathlib.Core.List.{List}

@@ -1,7 +1,7 @@
 -- One more rank of a pass.
---   raise-…, lower-…, hand-…, parent-…                 the cases of the small functions
+--   raise_…, lower_…, hand_…, parent_…                 the cases of the small functions
 --   raised_up, lowered_up, raised_down, lowered_down   the number that is carried along
---   below-…, following-…, above-…, preceding-…         what the number says of the rank
+--   below_…, following_…, above_…, preceding_…         what the number says of the rank
 --   handed_up, handed_down, handed_length              the marks that are handed to parents
 --   child_is, later_is, earlier_is, parents_are        what those say of the rank
 use Prim.Native.Nat.{ℕ, ◌+◌, ◌-◌, ◌≤◌, ◌<◌}

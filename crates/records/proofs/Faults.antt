@@ -1,6 +1,6 @@
 -- Signature records: which refusal a record has under which facts, and what a record without one is.
---   records-…         the end of the records
---   record-…          the refusals of a record, in their order
+--   records_…         the end of the records
+--   record_…          the refusals of a record, in their order
 --   record_passed     what a record without refusal is
 use Prim.Native.Nat.{ℕ, ◌+◌, ◌/◌, ◌≤◌, ◌<◌}
 use mathlib.Core.Path.{◌≡◌, refl, ap}

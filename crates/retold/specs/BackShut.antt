@@ -3,7 +3,7 @@
 --   Writes k s room w after   what demand 2 asks of one call: the tree's tag list in the room where it fits, 10 where it does not, and a refusal for other numbers
 --   BackTwo k call after     every call is so
 --   ours_back                whatever keeps our promise meets it
---   shut_out_back_refusing, -fixed, -idle   refusing everything, one fixed answer, a call that does nothing
+--   shut_out_back_refusing, _fixed, _idle   refusing everything, one fixed answer, a call that does nothing
 --   shut_out_back_trusting   a call that answers on two roots
 use Rattle.std.specs.Prelude.{ℕ, ◌+◌, ◌*◌, ◌≤◌, ◌<◌, ◌≡◌, refl, List, [], ◌∷◌, length, get_or}
 use Rattle.std.proofs.Common.{ap, ◌∙◌, sym, subst, arith}

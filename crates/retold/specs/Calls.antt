@@ -1,8 +1,8 @@
 -- Every call on records and tag lists, over its promise. The names begin with the call: read and write (signature records), tags and tree (tag lists read),
 -- back (a signature to its tag list).
---   …-one_result    two results that the promise allows are equal
---   …-nothing       a refused call leaves the room as it was
---   …-ten           where nothing before room is refused: 10 exactly if the result is longer than the room
+--   …_one_result    two results that the promise allows are equal
+--   …_nothing       a refused call leaves the room as it was
+--   …_ten           where nothing before room is refused: 10 exactly if the result is longer than the room
 use Rattle.std.specs.Prelude.{ℕ, ◌/◌, ◌≤◌, ◌<◌, ◌≡◌, refl, true, false, List, length}
 use Rattle.std.proofs.Common.{ap, ◌∙◌, sym, arith, ne_eqb}
 use Rattle.std.proofs.Math.Decide.{ℕ_discrete, dec_le}

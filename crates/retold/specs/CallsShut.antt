@@ -1,7 +1,7 @@
 -- Document 01's wrong programs keep none of this layer's promises. Each call is tried on the starred entry 7,1,2,0 and on nothing at all.
---   …-shut-refusing   refusing everything, with any numbers
---   …-shut-fixed      one fixed answer
---   …-shut-idle       a call that does nothing to the room
+--   …_shut_refusing   refusing everything, with any numbers
+--   …_shut_fixed      one fixed answer
+--   …_shut_idle       a call that does nothing to the room
 use Rattle.std.specs.Prelude.{ℕ, ◌≡◌, refl, false, List, [], ◌∷◌, get_or}
 use Rattle.std.proofs.Common.{ap, ◌∙◌, sym, arith}
 use Rattle.turns.specs.Turn.{run}

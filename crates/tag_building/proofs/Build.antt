@@ -1,9 +1,9 @@
 -- Building a signature in the room: tag by tag it becomes the signature of the tree that the tags tell.
---   entry_there, close-…  one tag
+--   entry_there, close_…  one tag
 --   build_of               all tags of a list
---   build_row, build_tree the tags of a row, and of a tree, leave its signature in the room
+--   build_row, build_tree  the tags of a row, and of a tree, leave its signature in the room
 --   whole_numbers         tags that are one whole tree: which tree, and its signature
---   Built, built-…        a loop that builds
+--   Built, built_…        a loop that builds
 use Prim.Native.Nat.{ℕ, suc, ◌+◌, ◌-◌, ◌*◌, ◌≤◌, ◌<◌}
 use mathlib.Core.Path.{◌≡◌, refl, ap, ◌∙◌, sym}
 use mathlib.Core.Bool.{Bool, true, false, ◌||◌}

@@ -1,6 +1,6 @@
 -- The loop that judges and builds at once: what holds at each tag, and what it comes to.
 --   Passing          what was asked at the start is what is still asked here, and the tags passed are built
---   passing-…        it begins so, goes on so with each tag, and ends or refuses so
+--   passing_…        it begins so, goes on so with each tag, and ends or refuses so
 use Prim.Native.Nat.{ℕ, ◌+◌, ◌-◌, ◌*◌, ◌≤◌}
 use mathlib.Core.Path.{◌≡◌, ap, ◌∙◌, sym}
 use mathlib.Core.Bool.{Bool, true, false}

@@ -1,6 +1,6 @@
 -- Tag lists: which refusal a tag has under which facts, and what a tag without one is.
---   with-…, closed-…, end-…, nameless-…   the tests
---   tag-…                         the refusals of a tag, in their order
+--   with_…, closed_…, end_…, nameless_…   the tests
+--   tag_…                         the refusals of a tag, in their order
 --   Opened, Closed, tag_passed    what a tag without refusal is
 use Prim.Native.Nat.{ℕ, ◌+◌, ◌-◌, ◌≤◌, ◌<◌}
 use mathlib.Core.Path.{◌≡◌, refl, ap, ◌∙◌, sym}

@@ -1,6 +1,6 @@
 -- Tag lists: "`OP` and a name opens an element (4 bytes) and `CL` closes the innermost one (2 bytes). A tag list is one whole tree."
 --   tag_bytes l             the bytes of a tag list
---   tag_fault any most b st the refusal of the record at the scan's place
+--   tag_fault any most b st  the refusal of the record at the scan's place
 --   tag_next b st           the state after it
 --   tree_scan …             records from a place on, to the close of the root, or to the end of the bytes
 --   tags_from b k p         k tags from place p on

@@ -1,5 +1,5 @@
 -- Writing a tag list back: tag by tag it becomes the tag list of the tree that the signature tells.
---   ends-…                      the test for a close
+--   ends_…                      the test for a close
 --   emit_tags                    so many tags from an entry on
 --   emit_row, emit_tree         over the entries of a row, and of a tree, they are its tags
 --   tree_in_law                     the tree that a tree's signature tells is that tree

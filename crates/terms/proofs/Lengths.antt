@@ -1,5 +1,5 @@
 -- Which length is refused, and how.
---   length-…     which case of the length's rule holds under which facts
+--   length_…     which case of the length's rule holds under which facts
 --   Sized        what a length is that is not refused
 --   most_small   no kind has more than 4,096 elements
 use Prim.Native.Nat.{ℕ, ◌/◌, ◌%◌, ◌≤◌, ◌<◌}

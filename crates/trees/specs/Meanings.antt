@@ -1,6 +1,6 @@
 -- The entries of a tree say what document 01 says of them, on the tree's own elements.
 --   name_is, post_is, ff_is     the numbers of an element's entry
---   ff_first, first_past_unique ff is the first rank after the element that is not below it, or n+1
+--   ff_first, first_past_unique  ff is the first rank after the element that is not below it, or n+1
 --   below_ff, ff_below          y is below x exactly if its rank lies between that of x and the ff of x
 --   parent_fa, fa_parent        fa is the rank of the parent, exactly
 --   top_fa, fa_top, top_root    fa is 0 at the root, and only there

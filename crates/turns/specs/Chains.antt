@@ -1,6 +1,6 @@
 -- Turns one after the other, each given the state that the one before handed back.
 --   Chain st B K r      public turns from st whose budgets add up to B and whose steps to K; r is what the last one answered
---   turn_cut, turn_kept a turn of a + b steps is one of a and then one of b; where the first one stopped, it is the first one
+--   turn_cut, turn_kept  a turn of a + b steps is one of a and then one of b; where the first one stopped, it is the first one
 --   chain_ends          where the rule leads to a finished state in N steps, turns with N steps in all report the end, after N steps
 use Rattle.std.specs.Prelude.{ℕ, ◌+◌, ◌-◌, ◌≤◌, ◌<◌, ◌≡◌, refl, ◌⊎◌, Bool, true, false}
 use Rattle.std.proofs.Common.{ap, ◌∙◌, sym, subst, inl, inr, arith}

@@ -3,7 +3,7 @@
 --   Faithful call         each turn that the call makes is what document 01 says of a turn
 --   ours_faithful         a call that hands back the turns of the rule is faithful
 --   faithful_turn         a faithful call hands back the turns of the rule, and nothing else
---   shut-out-…            a call that leaves another state, or says another count, than the turn of the rule
+--   shut_out_…            a call that leaves another state, or says another count, than the turn of the rule
 use Rattle.std.specs.Prelude.{ℕ, ◌≡◌, Bool}
 use Rattle.std.proofs.Common.{ap, sym}
 use Rattle.turns.specs.Turn.{Next, Turned, turn, Outcome}

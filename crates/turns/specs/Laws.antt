@@ -1,5 +1,5 @@
 -- The laws of a turn: what stops it is the first of finished, budget, refusal and answer, and nothing else.
---   run-…            which case holds under which facts, as a loop meets them
+--   run_…            which case holds under which facts, as a loop meets them
 --   turn_outcome     a turn is what document 01 says of it
 --   outcome_turn     and nothing else is
 --   ended_finished, budget_spent   where the end is reported, and where the budget stops it

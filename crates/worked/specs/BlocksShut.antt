@@ -1,10 +1,10 @@
 -- Demand 2 of the level and block calls, over any call: ours meets it, and document 01's wrong programs do not, with Ten as witness.
 --   Element s i              a tree yields the list, and i is the rank of an element of it
 --   DemandLevel, DemandPlace, DemandBlock   for an element: the tree's level; the place of it and all below it; that part. For nothing else an answer
---   ours-…                   whatever keeps our promise meets it
---   refusing-…, fixed-…, idle-…   refusing everything; one fixed answer; handing back what was given
---   trusting-…, outside-…    answering on the entries of two roots; answering for a rank of 0 or over n
---   ten-…                    the theorems with a premise, used once on Ten
+--   ours_…                   whatever keeps our promise meets it
+--   refusing_…, fixed_…, idle_…   refusing everything; one fixed answer; handing back what was given
+--   trusting_…, outside_…    answering on the entries of two roots; answering for a rank of 0 or over n
+--   ten_…                    the theorems with a premise, used once on Ten
 use Rattle.std.specs.Prelude.{ℕ, ◌+◌, ◌*◌, ◌-◌, ◌≤◌, ◌≡◌, refl, Bool, true, ◌⊎◌, List, [], length, take, drop}
 use Rattle.std.proofs.Common.{ap, ◌∙◌, sym, arith}
 use Rattle.std.proofs.Math.Bool.{false}

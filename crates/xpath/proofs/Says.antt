@@ -1,7 +1,7 @@
 -- On the entries of a tree, the axes over ranks say what the axes on its elements say.
 --   Says b A            the test b holds exactly if A does
---   says_and, -or, -not tests put together
---   says-…              each relation
+--   says_and, _or, _not   tests put together
+--   says_…              each relation
 --   axis_says           all eleven axes
 --   kept_says           with name test and position
 --   union_says          for a list of contexts

@@ -1,7 +1,7 @@
 -- Strictly ascending ranks, tested from the front.
 --   rises_from n last l   each of l is above the one before it, the first above last, and at most n
 --   rising_is            from 0 on this says: ranks from 1 to n, strictly ascending
---   rising-…             its cases at place k of a list
+--   rising_…             its cases at place k of a list
 --   within_at            each of the list is a rank from 1 to n
 use Prim.Native.Nat.{ℕ, suc, ◌+◌, ◌≤◌, ◌<◌}
 use Rattle.std.specs.Prelude.{◌≡◌, refl, List, [], ◌∷◌, Bool, true, false, ◌&&◌, length, get_or, drop, ltb, leb}

@@ -3,7 +3,7 @@
 --   spread_of axis n parent P j   j is on the axis of one of the ranks that pass P
 --   Seen P lo hi c      c is one of the ranks lo to hi - 1 that pass P
 --   Greatest, Least     x is the greatest (least) number v c of the c in S; 0 (65,535) where S is empty
---   spread-…            each axis by the number that is carried
+--   spread_…            each axis by the number that is carried
 use Rattle.std.specs.Prelude.{ℕ, zero, suc, ◌+◌, ◌≤◌, ◌<◌, ◌≡◌, ◌⊎◌, List, [], ◌∷◌, Bool, not, ◌&&◌, ◌||◌, length, get_or, ltb, eqb}
 use Rattle.std.proofs.Math.Path.{refl, ap, sym}
 use Rattle.std.proofs.Common.{◌∙◌, inl, inr, arith, eq-or-lt_of_le}
