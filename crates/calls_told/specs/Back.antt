@@ -207,14 +207,14 @@ pub ten_back : check_numbers (check_state_of (4 ∷ 3 ∷ 0 ∷ [])) ≡ 4 ∷ 3
 ten_back = check_numbers_back (4 ∷ 3 ∷ 0 ∷ []) refl
 
 -- the first answer of 1(1) on Five, 1 2
-abbrev first_answer_law : Walk
-first_answer_law = walking.at (1 ∷ 2 ∷ replicate 14 0) 2 2 Phase.Answer
+abbrev first_answer : Walk
+first_answer = walking.at (1 ∷ 2 ∷ replicate 14 0) 2 2 Phase.Answer
 
-pub five_back : walk_of (walk_numbers first_answer_law) ≡ first_answer_law
-five_back = walk_back_law first_answer_law refl
+pub five_back : walk_of (walk_numbers first_answer) ≡ first_answer
+five_back = walk_back_law first_answer refl
 
-pub five_numbers_back : walk_numbers (walk_of (walk_numbers first_answer_law)) ≡ walk_numbers first_answer_law
-five_numbers_back = walk_numbers_back (walk_numbers first_answer_law) refl (omega arith)
+pub five_numbers_back : walk_numbers (walk_of (walk_numbers first_answer)) ≡ walk_numbers first_answer
+five_numbers_back = walk_numbers_back (walk_numbers first_answer) refl (omega arith)
 
 -- 8(9,10) on Ten: yes, with the root at entry 8
 pub ten_fits_back : fit_numbers (fit_state_of (1 ∷ 8 ∷ 1 ∷ [])) ≡ 1 ∷ 8 ∷ 1 ∷ []

@@ -22,7 +22,7 @@ use Rattle.walking.specs.WalkTurn.{walk_turn_of}
 use Rattle.fits_rows.specs.Fitting.{Fitting}
 use Rattle.fits.specs.FitTurn.{fitting, fit_of, fit_turn_of}
 use Rattle.fits_laws.specs.Public as fits
-use Rattle.fits_laws.specs.Public.{shown, back_of_law, back_handed}
+use Rattle.fits_laws.specs.Public.{shown, back_of, back_handed}
 use Rattle.loose_turns.specs.Prepared as prepared
 use Rattle.loose_turns.specs.Walked as walked
 use Rattle.listed.specs.Cases.{prep_back, prep_handed, walk_back, walk_handed}
@@ -221,8 +221,8 @@ module _ (s tw : List ℕ) (a b : ℕ) (g : Asked) (x r : FitCalled) (p : asks.P
   abbrev FR : Turned Fitting
   FR = FT (a + b) asked
 
-  fit_is : (t : Turned Fitting) → fits.turned_of (back_of_law t).turn (back_of_law t).left ≡ shown t
-  fit_is t = fits.handed_turned (back_of_law t).turn (back_of_law t).left t (back_handed t)
+  fit_is : (t : Turned Fitting) → fits.turned_of (back_of t).turn (back_of t).left ≡ shown t
+  fit_is t = fits.handed_turned (back_of t).turn (back_of t).left t (back_handed t)
 
   pub fits_cut : (y : FitCalled) → stop_number x.called ≡ 2 → asks.Promised s tw b (asks.again x) y
       → Cut a y.called r.called × (r.room ≡ y.room)
@@ -233,8 +233,8 @@ module _ (s tw : List ℕ) (a b : ℕ) (g : Asked) (x r : FitCalled) (p : asks.P
       let w = subst (λ (st : Fitting). FitLeft (FT b st) x.called.left y.called.number y.room y.called.left y.called.out)
       (λ i. fitting (m i) (n i)) q in
       let e = sym (fit_is FR)
-      ∙ fits.cut_anywhere s tw a b g.room (fit_state_of g.numbers) (back_of_law FX).turn (back_of_law FR).turn (back_of_law FX).left (back_of_law FR).left
-      (back_handed FX) (back_handed FR) (back_of_law Y).turn (back_of_law Y).left (spent (shown FX) x.called p.says h) (back_handed Y)
+      ∙ fits.cut_anywhere s tw a b g.room (fit_state_of g.numbers) (back_of FX).turn (back_of FR).turn (back_of FX).left (back_of FR).left
+      (back_handed FX) (back_handed FR) (back_of Y).turn (back_of Y).left (spent (shown FX) x.called p.says h) (back_handed Y)
       ∙ ap (added a) (fit_is Y) in (
         cut_told a (shown FR) (shown Y) y.called r.called e w.says o.says
             (o.now_at ∙ ap (λ (t : Turned Fitting). kept_fit g.numbers (fit_of t.state)) e
@@ -245,7 +245,7 @@ module _ (s tw : List ℕ) (a b : ℕ) (g : Asked) (x r : FitCalled) (p : asks.P
   pub fits_kept : (stop_number x.called ≡ 2 → ⊥) → Same r.called x.called × (r.room ≡ x.room)
   fits_kept n =
       let e = sym (fit_is FR)
-      ∙ fits.cut_kept s tw a b g.room (fit_state_of g.numbers) (back_of_law FX).turn (back_of_law FR).turn (back_of_law FX).left (back_of_law FR).left
+      ∙ fits.cut_kept s tw a b g.room (fit_state_of g.numbers) (back_of FX).turn (back_of FR).turn (back_of FX).left (back_of FR).left
       (back_handed FX) (back_handed FR) (unspent (shown FX) x.called p.says n)
       ∙ fit_is FX in (
         same_told (shown FR) (shown FX) r.called x.called e o.says p.says

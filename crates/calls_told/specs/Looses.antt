@@ -30,7 +30,7 @@ use Rattle.calls_told.specs.Walks.{WalkTold, WalkCalls, tell_numbers, walk_chain
 -- accepted, by calls of the check from 1, 0, 0: the signature as a data tree, 0, and the twig as a twig, 1
 pub numbers_question : (s tw : List ℕ) → Words s → Words tw → {A B J K : ℕ} {r u : Called} → CheckCalls 0 s (1 ∷ 0 ∷ 0 ∷ []) A J r → stop_number r ≡ 1
     → CheckCalls 1 tw (1 ∷ 0 ∷ 0 ∷ []) B K u → stop_number u ≡ 1 → Accepted s tw
-numbers_question s tw v w c p d q = record { data_tree_law = numbers_accepted 0 s v c p; twig = numbers_accepted 1 tw w d q }
+numbers_question s tw v w c p d q = record { data_tree = numbers_accepted 0 s v c p; twig = numbers_accepted 1 tw w d q }
 
 module _ (s tw left : List ℕ) where
   -- what is told along a chain of calls from the fresh walk
@@ -59,7 +59,7 @@ module _ (s tw left : List ℕ) where
 
   way : {l : List ℕ} → NumbersOnTheWay l → OnTheWay s tw left (walk_of l)
   way (begins f) = subst (OnTheWay s tw left) (sym (fresh_read f)) start
-  way (came f c) = let x = walk_chain s tw left c fresh (fresh_read f) in subst (OnTheWay s tw left) (sym x.told_as_law.reads) (handed x.chain)
+  way (came f c) = let x = walk_chain s tw left c fresh (fresh_read f) in subst (OnTheWay s tw left) (sym x.told_as.reads) (handed x.chain)
 
   -- out[0] of a call is the number of the public stop
   reason_is : (r : Called) (q : WalkTurn) → WalkTold s tw left r q → stop_number r ≡ (stops.told q.stop).reason
@@ -75,7 +75,7 @@ module _ (s tw left : List ℕ) where
     numbers_loose_exactly {r = r} f c =
         let x = walk_chain s tw left c fresh (fresh_read f) in
         let y = loose_exactly s tw accepted left p x.chain in
-        let e = reason_is r x.last x.told_as_law in
+        let e = reason_is r x.last x.told_as in
         record {
           rest = y.rest;
           front = ap (λ (z : List (List ℕ)). z ++ y.rest) x.told_same ∙ y.front;
@@ -98,8 +98,8 @@ module _ (s tw left : List ℕ) where
         let y = walk_chain s tw left d fresh (fresh_read g) in
         x.total_same
         ∙ end_steps_once s tw accepted left p x.chain y.chain
-        (reason_end x.last.stop (sym (reason_is r x.last x.told_as_law) ∙ h))
-        (reason_end y.last.stop (sym (reason_is u y.last y.told_as_law) ∙ i))
+        (reason_end x.last.stop (sym (reason_is r x.last x.told_as) ∙ h))
+        (reason_end y.last.stop (sym (reason_is u y.last y.told_as) ∙ i))
         ∙ sym y.total_same
 
     -- demand 3: the steps of calls that each but the last spent their budget, summed
@@ -110,7 +110,7 @@ module _ (s tw left : List ℕ) where
         let y = walk_within_law s tw accepted left p (way i) x.chain (x.each_same h) in
         record {
           limit = omega (arith, y.limit, x.total_same);
-          arrives = λ b. by x.last.stop (reason_is r x.last x.told_as_law) (y.arrives b);
+          arrives = λ b. by x.last.stop (reason_is r x.last x.told_as) (y.arrives b);
         }
       where
         by : (z : Stop) → stop_number r ≡ (stops.told z).reason → (z ≡ Stop.Answer) ⊎ (z ≡ Stop.End) → (stop_number r ≡ 0) ⊎ (stop_number r ≡ 1)

@@ -52,8 +52,8 @@ use Rattle.calls_told.specs.Tens as tens
 abbrev record_bytes : List ℕ
 record_bytes = 83 ∷ 69 ∷ 7 ∷ 0 ∷ 1 ∷ 0 ∷ 2 ∷ 0 ∷ 0 ∷ 0 ∷ []
 
-abbrev tag_bytes_law : List ℕ
-tag_bytes_law = 79 ∷ 80 ∷ 7 ∷ 0 ∷ 67 ∷ 76 ∷ []
+abbrev seven_tags : List ℕ
+seven_tags = 79 ∷ 80 ∷ 7 ∷ 0 ∷ 67 ∷ 76 ∷ []
 
 -- ---- numbers that are never returned
 
@@ -65,8 +65,8 @@ module _ (room : List ℕ) (r : ℕ) (after out : List ℕ) where
   write_numbers p = one_not (0 ∷ 1 ∷ 3 ∷ 7 ∷ 10 ∷ []) r 5 (told.write_numbers room r after out wrong_post p) refl
 
   -- as a twig: name 0 is no fault of one
-  pub tags_numbers : TagsNumbers 1 tag_bytes_law room r after out → r ≡ 3 → ⊥
-  tags_numbers p = one_not (tags_give Kind.Twig) r 3 (told.tags_numbers room r after out 1 tag_bytes_law p) refl
+  pub tags_numbers : TagsNumbers 1 seven_tags room r after out → r ≡ 3 → ⊥
+  tags_numbers p = one_not (tags_give Kind.Twig) r 3 (told.tags_numbers room r after out 1 seven_tags p) refl
 
   pub back_numbers : BackNumbers 0 two_roots room r after out → r ≡ 9 → ⊥
   back_numbers p = one_not (back_gives Kind.Data) r 9 (told.back_numbers room r after out 0 two_roots p) refl
@@ -117,11 +117,11 @@ single_record_law : length (bytes_from single 0 (entries single)) ≡ 10
 unfolding bytes_from
 single_record_law = refl
 
-tags_read : halt_number (tree_scan true true 16 tag_bytes_law 0).halt ≡ 0
+tags_read : halt_number (tree_scan true true 16 seven_tags 0).halt ≡ 0
 unfolding run step_by tag_fault tag_next tree_end marked closed_with nameless_at misnested
 tags_read = refl
 
-tag_numbers : length (numbers_in tag_bytes_law 0 (tree_scan true true 16 tag_bytes_law 0).state.count) ≡ 4
+tag_numbers : length (numbers_in seven_tags 0 (tree_scan true true 16 seven_tags 0).state.count) ≡ 4
 unfolding run step_by tag_fault tag_next tree_end marked closed_with nameless_at misnested tags_from opened closed rows_of one_tree tree_of
 tag_numbers = refl
 
@@ -140,8 +140,8 @@ module _ (r : ℕ) (after out : List ℕ) where
   pub write_ten : WriteNumbers single (replicate 9 0) r after out → r ≡ 10
   write_ten p = (tens.write_ten (replicate 9 0) r after out single p).given single_fine (omega (arith, single_record_law))
 
-  pub tags_ten : TagsNumbers 1 tag_bytes_law (replicate 3 0) r after out → r ≡ 10
-  tags_ten p = (tens.tags_ten (replicate 3 0) r after out 1 tag_bytes_law p).given tags_read (omega (arith, tag_numbers))
+  pub tags_ten : TagsNumbers 1 seven_tags (replicate 3 0) r after out → r ≡ 10
+  tags_ten p = (tens.tags_ten (replicate 3 0) r after out 1 seven_tags p).given tags_read (omega (arith, tag_numbers))
 
   pub back_ten : BackNumbers 0 single (replicate 5 0) r after out → r ≡ 10
   back_ten p = (tens.back_ten (replicate 5 0) r after out 0 single p).1 (single_accepted.0, omega (arith, single_bytes))

@@ -195,7 +195,7 @@ module _ (s tw table : List ℕ) where
     pub last : WalkTurn
     pub total : ℕ
     pub chain : WalkTurns s tw table w B total last
-    pub told_as_law : WalkTold r last
+    pub told_as : WalkTold r last
     pub total_same : K ≡ total
     pub told_same : told (tell_numbers (entries tw)) c ≡ told (tell_of (entries tw)) chain
     pub each_same : AllButLast (λ u. stop_number u ≡ 2) c → AllButLast (λ u. u.stop ≡ Stop.Budget) chain
@@ -212,7 +212,7 @@ module _ (s tw table : List ℕ) where
         last = x.last;
         total = x.total;
         chain = x.chain;
-        told_as_law = x.same;
+        told_as = x.same;
         total_same = x.total_same;
         told_same = x.told_same;
         each_same = x.each_same;

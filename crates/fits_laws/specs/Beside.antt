@@ -40,20 +40,20 @@ module _ (s tw : List ℕ) (accepted : Accepted s tw) (room : List ℕ) (long : 
 
   -- a map of document 01 from the twig's elements to those of the data tree
   abbrev pub Mapped : Type 0
-  Mapped = (l : List ℕ) × Lists (accepted_tree Kind.Data s accepted.data_tree_law).tree (accepted_tree Kind.Twig tw accepted.twig).tree
-      (Ordered (accepted_tree Kind.Data s accepted.data_tree_law).tree (accepted_tree Kind.Twig tw accepted.twig).tree) l
+  Mapped = (l : List ℕ) × Lists (accepted_tree Kind.Data s accepted.data_tree).tree (accepted_tree Kind.Twig tw accepted.twig).tree
+      (Ordered (accepted_tree Kind.Data s accepted.data_tree).tree (accepted_tree Kind.Twig tw accepted.twig).tree) l
 
   fits_mapped : Fits s tw ↔ Mapped
   fits_mapped = (
     λ f. (
       f.0,
-      (ordered_maps s tw accepted.twig accepted.data_tree_law f.0).0
+      (ordered_maps s tw accepted.twig accepted.data_tree f.0).0
           ((answers_exactly n (entries_of width s) m (entries_of width tw) f.0).1 f.1),
     ),
     λ g. (
       g.0,
       (answers_exactly n (entries_of width s) m (entries_of width tw) g.0).0
-          ((ordered_maps s tw accepted.twig accepted.data_tree_law g.0).1 g.1),
+          ((ordered_maps s tw accepted.twig accepted.data_tree g.0).1 g.1),
     ),
   )
 
@@ -72,7 +72,7 @@ module _ (s tw : List ℕ) (accepted : Accepted s tw) (room : List ℕ) (long : 
   module _ (lent : List ℕ) (enough : m ≤ length lent) (a : Written) (left : List ℕ) (p : OrderedPromise s tw (replicate m 0) lent a left) where
     -- the ordered call, beginning with zeros
     first_answer_law : (Fits s tw → a ≡ Written.Length m) × (FitsNot s tw → a ≡ Written.Length 0)
-    first_answer_law = by (answered a) left refl (ordered.ordered_exactly s tw (replicate m 0) lent a left p accepted.twig accepted.data_tree_law (zeros_fit n m))
+    first_answer_law = by (answered a) left refl (ordered.ordered_exactly s tw (replicate m 0) lent a left p accepted.twig accepted.data_tree (zeros_fit n m))
       where
         by : (z : Answered) (after : List ℕ) → answered a ≡ z → ordered.Meant s tw (replicate m 0) lent z after
             → (Fits s tw → a ≡ Written.Length m) × (FitsNot s tw → a ≡ Written.Length 0)

@@ -22,7 +22,7 @@ use Rattle.ordering.specs.Table.{index, ends_in, stands_in, one_of}
 use Rattle.fits_rows.specs.Fitting.{place_fits, in_range, is_yes, goes_on, fit_step}
 use Rattle.fits.specs.FitTurn.{fit_turn_of}
 use Rattle.fits_laws.specs.Questions.{FitBack, reading, begins, FitTurns, Fits, FitsNot}
-use Rattle.fits_laws.specs.Public.{back_of_law, back_handed}
+use Rattle.fits_laws.specs.Public.{back_of, back_handed}
 use Rattle.fits_laws.specs.Exactly.{fits_exactly}
 
 -- a room that nobody cleared
@@ -31,18 +31,18 @@ full k = replicate k 65535
 
 pub four_accepted : Accepted tarts (fork 2 3 4)
 unfolding run turn_within length_fault check.in_range check.step_of check.close_of check.nameless check.second_root check.accepted cell
-four_accepted = record { data_tree_law = refl; twig = refl }
+four_accepted = record { data_tree = refl; twig = refl }
 
 pub ten_accepted : Accepted ten (fork 8 9 10)
 unfolding run turn_within length_fault check.in_range check.step_of check.close_of check.nameless check.second_root check.accepted cell
-ten_accepted = record { data_tree_law = refl; twig = refl }
+ten_accepted = record { data_tree = refl; twig = refl }
 
 -- a turn of b steps from the fresh state
 abbrev pub four_turn : ℕ → FitBack
-four_turn b = back_of_law (fit_turn_of tarts (fork 2 3 4) b (reading (begins tarts (fork 2 3 4) (full 12))))
+four_turn b = back_of (fit_turn_of tarts (fork 2 3 4) b (reading (begins tarts (fork 2 3 4) (full 12))))
 
 abbrev pub ten_turn : ℕ → FitBack
-ten_turn b = back_of_law (fit_turn_of ten (fork 8 9 10) b (reading (begins ten (fork 8 9 10) (full 30))))
+ten_turn b = back_of (fit_turn_of ten (fork 8 9 10) b (reading (begins ten (fork 8 9 10) (full 30))))
 
 -- which is a chain of one public turn
 pub four_chain : (b : ℕ) → FitTurns tarts (fork 2 3 4) (begins tarts (fork 2 3 4) (full 12)) b (four_turn b).turn.steps (four_turn b)

@@ -19,7 +19,7 @@ use Rattle.fits_rows.specs.Fitting.{Fitting, told}
 use Rattle.fits_rows.specs.FittingLaws.{ranged_facts}
 use Rattle.fits.specs.FitTurn.{room_for, fit_run, fit_fits, fit_turn_of, FitHanded}
 use Rattle.fits_laws.specs.Questions.{FitLent, FitBack, lend, reading, begins, Keeps, FitTurns, Fits, FitsNot}
-use Rattle.fits_laws.specs.Public.{step, run_is, back_of_law, back_handed}
+use Rattle.fits_laws.specs.Public.{step, run_is, back_of, back_handed}
 use Rattle.fits_laws.specs.Exactly.{Came, yes, no, asks, fits_comes, fits_exactly}
 
 -- given signature, twig, budget, and state and room
@@ -68,14 +68,14 @@ module _ (call : Fitter) (promise : (s tw : List ℕ) (b : ℕ) (st : FitLent) �
   ours_fit_three s tw g b st i l = (
     fit_run s tw b (reading st),
     subst (FitHanded (call s tw b st).turn (call s tw b st).left)
-        (run_is s tw b (reading st) (record { given = g; in_range_law = ranged_facts (entries s) (entries tw) (reading st) i; room = l }))
+        (run_is s tw b (reading st) (record { given = g; in_range = ranged_facts (entries s) (entries tw) (reading st) i; room = l }))
         (promise s tw b st),
     turn_outcome Fitting told (step s tw) b (reading st),
   )
 
 -- a turn made of our definitions, which the demands are met by
 abbrev pub ours : Fitter
-ours s tw b st = back_of_law (fit_turn_of s tw b (reading st))
+ours s tw b st = back_of (fit_turn_of s tw b (reading st))
 
 pub two_met : FitTwo ours
 two_met = ours_fit_two ours (λ s tw b st. back_handed (fit_turn_of s tw b (reading st)))

@@ -72,7 +72,7 @@ module _ (s tw : List ℕ) (accepted : Accepted s tw) where
   fresh_good : (room : List ℕ) → room_for s tw ≤ length room → Good s tw (reading (begins s tw room))
   fresh_good room long = record {
     given = grounds.given;
-    in_range_law = record { node_low = grounds.twig.some; node_high = omega arith; entry_low = grounds.tree.some; entry_high = omega arith; stage_fits_law = refl };
+    in_range = record { node_low = grounds.twig.some; node_high = omega arith; entry_low = grounds.tree.some; entry_high = omega arith; stage_fits_law = refl };
     room = long;
   }
 
@@ -181,7 +181,7 @@ module _ (s tw : List ℕ) (accepted : Accepted s tw) where
 
     -- the steps taken are the numbers written
     written : left_of n (reading (lend r)) + K ≡ room_for s tw
-    written = count_exact s tw (fresh_good room long).in_range_law (chain_states s tw c) ∙ all_left
+    written = count_exact s tw (fresh_good room long).in_range (chain_states s tw c) ∙ all_left
 
     pub fits_within : (K ≤ room_for s tw) × (r.turn.stop ≡ Stop.Budget → (K ≡ B) × (B < room_for s tw))
     fits_within = (omega (arith, written), spends fits_comes)
@@ -192,7 +192,7 @@ module _ (s tw : List ℕ) (accepted : Accepted s tw) where
         spends (asks o) e = (o.spent, o.fewer)
 
     handed_ranged : Ranged n m (reading (lend r))
-    handed_ranged = (steps_within n (entries_of width s) m (entries_of width tw) (chain_states s tw c) (fresh_good room long).in_range_law).0
+    handed_ranged = (steps_within n (entries_of width s) m (entries_of width tw) (chain_states s tw c) (fresh_good room long).in_range).0
 
     -- "Steps: m×n − t + 1 at yes, (m−q+1)×n at no."
     pub fits_count : (r.turn.state.stage ≡ Stage.Yes → K + r.turn.state.entry.0 ≡ room_for s tw + 1)

@@ -1,7 +1,7 @@
 -- The ordered question at the public call, over its promise, for any signature, twig, room and state.
 --   shown t                what a turn of the rule is told as: at yes the end as an answer
 --   turned_of r left        what was handed back, as such a turn
---   handed_turned, back_of_law, back_handed   a turn of the rule and what hands it back
+--   handed_turned, back_of, back_handed   a turn of the rule and what hands it back
 --   one_result             two results that the promise allows are equal, and so is what they leave in the room
 --   step_as_written        the state and the room handed back are those after exactly the steps returned, by the written rule
 --   handed_back_in_range   from a state in range the state handed back is in range, after a refusal too
@@ -52,10 +52,10 @@ handed_turned r left t h =
     λ i. record { state = record { node = a i; entry = b i; stage = c i; room = l i }; steps = d i; halt = e i }
 
 -- what hands back a turn of the rule
-abbrev pub back_of_law : Turned Fitting → FitBack
-back_of_law t = record { turn = record { state = fit_of t.state; steps = t.steps; stop = stop_of (fit_halt t.state.stage t.halt) }; left = t.state.room }
+abbrev pub back_of : Turned Fitting → FitBack
+back_of t = record { turn = record { state = fit_of t.state; steps = t.steps; stop = stop_of (fit_halt t.state.stage t.halt) }; left = t.state.room }
 
-pub back_handed : (t : Turned Fitting) → FitHanded (back_of_law t).turn (back_of_law t).left t
+pub back_handed : (t : Turned Fitting) → FitHanded (back_of t).turn (back_of t).left t
 back_handed t = record { state = refl; steps = refl; stop = told_stop (fit_halt t.state.stage t.halt); leaves = refl }
 
 -- ---- what a halt is told as
@@ -110,24 +110,24 @@ module _ (sig twig : List ℕ) where
   -- the twig and the signature's length are accepted, the state is in range, and the room is enough
   pub record Good (st : Fitting) : Type 0 where
     pub given : (given_of sig twig).reason ≡ 1
-    pub in_range_law : Ranged (entries sig) (entries twig) st
+    pub in_range : Ranged (entries sig) (entries twig) st
     pub room : room_for sig twig ≤ length st.room
 
   pub run_is : (b : ℕ) (st : Fitting) → Good st → whole b st ≡ fit_run sig twig b st
   run_is b st g =
       begun_run (room_for sig twig) sig twig (length st.room) st (fit_fits sig twig st) (fit_run sig twig b st) g.given
-      (ranged_yes (entries sig) (entries twig) st g.in_range_law) g.room
+      (ranged_yes (entries sig) (entries twig) st g.in_range) g.room
 
   pub kept : (a b : Fitting) → Step Fitting told step a b → Good a → Good b
   kept a b (found h e) g = absurd (silent (entries sig) (entries_of width sig) (entries twig) (entries_of width twig) a b e)
   kept a b (on h e) g =
-      let x = step_within (entries sig) (entries_of width sig) (entries twig) (entries_of width twig) a b h e g.in_range_law in
-      record { given = g.given; in_range_law = x.0; room = omega (arith, g.room, x.2) }
+      let x = step_within (entries sig) (entries_of width sig) (entries twig) (entries_of width twig) a b h e g.in_range in
+      record { given = g.given; in_range = x.0; room = omega (arith, g.room, x.2) }
 
   judged : (st : Fitting) → Judging.Judged Fitting told step whole Good st
   judged st =
       begun_judged told step Good (room_for sig twig) sig twig (λ x. length x.room) (fit_fits sig twig) (fit_run sig twig) st
-      (λ h x y. record { given = h; in_range_law = ranged_facts (entries sig) (entries twig) st x; room = y })
+      (λ h x y. record { given = h; in_range = ranged_facts (entries sig) (entries twig) st x; room = y })
 
   -- ---- one turn, from any state
 

@@ -35,7 +35,7 @@ use Rattle.fits.specs.declared.FitTurn.{FitTurn}
 use Rattle.fits.specs.FitTurn.{fit_at, fresh_of, fitting, fit_fits, fit_turn_of, FitPromise}
 use Rattle.fits_laws.specs.Questions.{FitBack, reading, begins, FitTurns, Answers}
 use Rattle.fits_laws.specs.Public as public
-use Rattle.fits_laws.specs.Public.{back_of_law, back_handed, turned_of, step}
+use Rattle.fits_laws.specs.Public.{back_of, back_handed, turned_of, step}
 use Rattle.fits_laws.specs.Chained.{Altered, altered_within}
 use Rattle.fits_laws.specs.Exactly.{fits_within, fits_count, yes_entry}
 use Rattle.fits_laws.specs.Beside.{Mapped, fits_maps, fits_agrees}
@@ -64,7 +64,7 @@ ten_entry xs a = (yes_entry ten (fork 8 9 10) ten_accepted (full 30) (omega arit
 
 -- the same turn in a room of zeros
 abbrev ten_zeros : FitBack
-ten_zeros = back_of_law (fit_turn_of ten (fork 8 9 10) 23 (reading (begins ten (fork 8 9 10) (replicate 30 0))))
+ten_zeros = back_of (fit_turn_of ten (fork 8 9 10) 23 (reading (begins ten (fork 8 9 10) (replicate 30 0))))
 
 zeros_yes : ten_zeros.turn.stop ≡ Stop.Answer
 unfolding run turn_within length_fault check.in_range check.step_of check.close_of check.nameless check.second_root check.accepted cell passes given_of ready_for begun_for
@@ -124,7 +124,7 @@ ten_kept b r left o =
 ten_good : (l : List ℕ) → 30 ≤ length l → public.Good ten (fork 8 9 10) (fitting (fit_at 1 8 Stage.Yes) l)
 ten_good l h = record {
   given = (accepted_grounds ten (fork 8 9 10) ten_accepted).given;
-  in_range_law = record { node_low = omega arith; node_high = omega arith; entry_low = omega arith; entry_high = omega arith; stage_fits_law = refl };
+  in_range = record { node_low = omega arith; node_high = omega arith; entry_low = omega arith; entry_high = omega arith; stage_fits_law = refl };
   room = h;
 }
 
@@ -163,7 +163,7 @@ abbrev damaged : List ℕ
 damaged = 1 ∷ 5 ∷ 6 ∷ 0 ∷ 1 ∷ 1 ∷ 3 ∷ 1 ∷ 1 ∷ 4 ∷ 6 ∷ 1 ∷ 1 ∷ 2 ∷ 7 ∷ 3 ∷ 1 ∷ 3 ∷ 6 ∷ 3 ∷ []
 
 abbrev damaged_turn : FitBack
-damaged_turn = back_of_law (fit_turn_of damaged pair 9 (fitting (fresh_of 2 5) (full 10)))
+damaged_turn = back_of (fit_turn_of damaged pair 9 (fitting (fresh_of 2 5) (full 10)))
 
 damaged_refused : damaged_turn.turn.stop ≡ Stop.Refused (record { number = 11; entry = record { 0 = 0 } })
 unfolding run turn_within length_fault check.in_range check.step_of check.close_of check.nameless check.second_root check.accepted cell passes given_of ready_for begun_for
@@ -174,7 +174,7 @@ damaged_good : public.Good damaged pair (fitting (fresh_of 2 5) (full 10))
 unfolding run turn_within length_fault check.in_range check.step_of check.close_of check.nameless check.second_root check.accepted cell given_of
 damaged_good = record {
   given = refl;
-  in_range_law = record { node_low = omega arith; node_high = omega arith; entry_low = omega arith; entry_high = omega arith; stage_fits_law = refl };
+  in_range = record { node_low = omega arith; node_high = omega arith; entry_low = omega arith; entry_high = omega arith; stage_fits_law = refl };
   room = omega arith;
 }
 

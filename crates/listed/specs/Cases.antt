@@ -50,15 +50,15 @@ walk_handed t = record { walk = refl; steps = refl; stop = told_stop t.halt }
 
 pub five_accepted : Accepted five pair
 unfolding turn_within length_fault check.in_range run check.step_of check.close_of check.nameless check.second_root check.accepted cell
-five_accepted = record { data_tree_law = refl; twig = refl }
+five_accepted = record { data_tree = refl; twig = refl }
 
 pub four_accepted : Accepted tarts (fork 2 3 4)
 unfolding turn_within length_fault check.in_range run check.step_of check.close_of check.nameless check.second_root check.accepted cell
-four_accepted = record { data_tree_law = refl; twig = refl }
+four_accepted = record { data_tree = refl; twig = refl }
 
 pub ten_accepted : Accepted ten (fork 8 9 10)
 unfolding turn_within length_fault check.in_range run check.step_of check.close_of check.nameless check.second_root check.accepted cell
-ten_accepted = record { data_tree_law = refl; twig = refl }
+ten_accepted = record { data_tree = refl; twig = refl }
 
 -- ---- prepared
 

@@ -77,7 +77,7 @@ module _ (d w : Tree) (e t : Entries) (hd : Holds e (whole d) 1 0 0) (hw : Holds
 
 module _ (s tw : List ℕ) (a : Accepted s tw) where
   abbrev data_tree : AcceptedTree Kind.Data s
-  data_tree = accepted_tree Kind.Data s a.data_tree_law
+  data_tree = accepted_tree Kind.Data s a.data_tree
 
   abbrev twig_tree : AcceptedTree Kind.Twig tw
   twig_tree = accepted_tree Kind.Twig tw a.twig

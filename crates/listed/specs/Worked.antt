@@ -98,7 +98,7 @@ five_computed = refl
 
 -- the two trees, which the accepted signatures have
 abbrev pub five_tree : Tree
-five_tree = (accepted_tree Kind.Data five five_accepted.data_tree_law).tree
+five_tree = (accepted_tree Kind.Data five five_accepted.data_tree).tree
 
 abbrev pub pair_tree : Tree
 pair_tree = (accepted_tree Kind.Twig pair five_accepted.twig).tree

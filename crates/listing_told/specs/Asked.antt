@@ -20,11 +20,11 @@ use Rattle.listing_told.specs.Ground.{Question, rest_bytes}
 
 -- "a data tag list and at once a twig tag list"
 pub record Asked (b : List ℕ) : Type 0 where
-  pub data_tree_law : Tree
+  pub data_tree : Tree
   pub twig : Tree
-  pub data_grown : Grown (any_name Kind.Data) (most Kind.Data) data_tree_law
+  pub data_grown : Grown (any_name Kind.Data) (most Kind.Data) data_tree
   pub twig_grown : Grown (any_name Kind.Twig) (most Kind.Twig) twig
-  pub is : b ≡ tag_bytes (tree_tags data_tree_law) ++ tag_bytes (tree_tags twig)
+  pub is : b ≡ tag_bytes (tree_tags data_tree) ++ tag_bytes (tree_tags twig)
 
 module _ (b : List ℕ) where
   -- what is not refused is two tag lists and nothing else
@@ -33,7 +33,7 @@ module _ (b : List ℕ) where
       let d = scan_sound false (any_name Kind.Data) (most Kind.Data) b q.bytes 0 q.data_fine in
       let t = (fine_taken Kind.Twig (rest_of b) (rest_bytes b (data_scan b).state.at q.bytes) q.twig_fine).0 in
       record {
-        data_tree_law = d.tree;
+        data_tree = d.tree;
         twig = t.tree;
         data_grown = d.grown;
         twig_grown = t.grown;
@@ -42,9 +42,9 @@ module _ (b : List ℕ) where
 
   module _ (y : Asked b) where
     -- the scan of the data list stops where the twig begins
-    scanned : Scanned false (any_name Kind.Data) (most Kind.Data) b y.data_tree_law 0 (tag_bytes (tree_tags y.twig))
+    scanned : Scanned false (any_name Kind.Data) (most Kind.Data) b y.data_tree 0 (tag_bytes (tree_tags y.twig))
     scanned =
-        scan_complete false (any_name Kind.Data) (most Kind.Data) b y.data_tree_law 0 (tag_bytes (tree_tags y.twig)) y.data_grown tt y.is
+        scan_complete false (any_name Kind.Data) (most Kind.Data) b y.data_tree 0 (tag_bytes (tree_tags y.twig)) y.data_grown tt y.is
 
     twig_taken : Taken Kind.Twig (rest_of b)
     twig_taken = record { tree = y.twig; grown = y.twig_grown; is = scanned.rest_is }
@@ -55,16 +55,16 @@ module _ (b : List ℕ) where
         omega (
           arith,
           ap length y.is,
-          length-append (tag_bytes (tree_tags y.data_tree_law)) (tag_bytes (tree_tags y.twig)),
-          tag_bytes_length (whole y.data_tree_law),
+          length-append (tag_bytes (tree_tags y.data_tree)) (tag_bytes (tree_tags y.twig)),
+          tag_bytes_length (whole y.data_tree),
           tag_bytes_length (whole y.twig),
           y.data_grown.small,
           y.twig_grown.small,
         )
 
-    data_signature : data_of b ≡ signature y.data_tree_law
+    data_signature : data_of b ≡ signature y.data_tree
     data_signature =
-        ap (numbers_in b 0) scanned.count_is ∙ numbers_there b y.data_tree_law 0 (tag_bytes (tree_tags y.twig)) y.is
+        ap (numbers_in b 0) scanned.count_is ∙ numbers_there b y.data_tree 0 (tag_bytes (tree_tags y.twig)) y.is
 
     twig_signature : twig_of (rest_of b) ≡ signature y.twig
     unfolding twig_taken
@@ -82,7 +82,7 @@ module _ (b : List ℕ) where
   pub record Exactly : Type 0 where
     pub sound : Question b → Asked b
     pub complete : Asked b → Question b
-    pub data_read : (y : Asked b) → data_of b ≡ signature y.data_tree_law
+    pub data_read : (y : Asked b) → data_of b ≡ signature y.data_tree
     pub twig_read : (y : Asked b) → twig_of (rest_of b) ≡ signature y.twig
 
   -- the listing program takes just the inputs that are a data tag list and at once a twig tag list

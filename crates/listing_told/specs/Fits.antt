@@ -49,7 +49,7 @@ module _ (b : List ℕ) where
     accepted = question_accepted b q
 
     data_small : entries s ≤ 4096
-    data_small = (accepted_tree Kind.Data s accepted.data_tree_law).small
+    data_small = (accepted_tree Kind.Data s accepted.data_tree).small
 
     twig_small : entries tw ≤ 16
     twig_small = (accepted_tree Kind.Twig tw accepted.twig).small

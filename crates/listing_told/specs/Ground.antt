@@ -48,7 +48,7 @@ rest_bytes b k h i = subst (λ (x : ℕ). x < 256) (sym (get_or-drop k b i 0)) (
 
 pub question_accepted : (b : List ℕ) → Question b → Accepted (data_of b) (twig_of (rest_of b))
 question_accepted b q = record {
-  data_tree_law = yields_accepted Kind.Data (data_of b) (scan_yields false Kind.Data b q.bytes q.data_fine);
+  data_tree = yields_accepted Kind.Data (data_of b) (scan_yields false Kind.Data b q.bytes q.data_fine);
   twig = yields_accepted Kind.Twig (twig_of (rest_of b))
       (scan_yields true Kind.Twig (rest_of b) (rest_bytes b (data_scan b).state.at q.bytes) q.twig_fine);
 }
@@ -65,7 +65,7 @@ module _ (s tw : List ℕ) (accepted : Accepted s tw) where
 
   fine : start_fault (entries s) 8192 ≡ 0
   fine =
-      let t = accepted_tree Kind.Data s accepted.data_tree_law in
+      let t = accepted_tree Kind.Data s accepted.data_tree in
       start_fine (entries s) 8192 (accepted_grounds s tw accepted).tree.some (omega (arith, t.small))
       (omega (arith, t.small))
 
@@ -84,7 +84,7 @@ module _ (s tw : List ℕ) (accepted : Accepted s tw) where
       by : Done s tw prep_budget turn.steps (prep_back turn) ⊎ Short s tw prep_budget turn.steps (prep_back turn)
           → (prep_back turn).turn.stop ≡ Stop.End
       by (inl x) = x.stop
-      by (inr x) = absurd (omega (arith, x.fewer, (accepted_tree Kind.Data s accepted.data_tree_law).small))
+      by (inr x) = absurd (omega (arith, x.fewer, (accepted_tree Kind.Data s accepted.data_tree).small))
 
   table_is : turn.state.table ≡ table_of s tw lent
   unfolding table_of

@@ -72,7 +72,7 @@ module _ (s tw table : List ℕ) where
     -- "2×m×n+1": the budget is never spent
     budget_enough : 2 * (entries tw * entries s) + 1 ≤ walk_budget
     budget_enough =
-        let n = (accepted_tree Kind.Data s accepted.data_tree_law).small in
+        let n = (accepted_tree Kind.Data s accepted.data_tree).small in
         let m = (accepted_tree Kind.Twig tw accepted.twig).small in
         small (entries tw) (entries s) m n
       where

@@ -110,11 +110,11 @@ module _ (sig twig : List ℕ) where
   -- the twig and the signature's length are accepted, the state is in range, and the room is enough
   pub record Good (st : Preparing) : Type 0 where
     pub given : (given_of sig twig).reason ≡ 1
-    pub in_range_law : st.next ≤ entries sig
+    pub in_range : st.next ≤ entries sig
     pub room : table_width * entries sig ≤ length st.table
 
   run_is : (b : ℕ) (st : Preparing) → Good st → whole b st ≡ turn Preparing prepared step b st
-  run_is b st g = begun_run (table_width * entries sig) sig twig (length st.table) st (prep_in_range (entries sig) st) (prep_run sig twig b st) g.given (le-leb _ _ g.in_range_law) g.room
+  run_is b st g = begun_run (table_width * entries sig) sig twig (length st.table) st (prep_in_range (entries sig) st) (prep_run sig twig b st) g.given (le-leb _ _ g.in_range) g.room
 
   after_step : (st to : Preparing) → step st ≡ moved to
       → to ≡ record { next = st.next - 1; table = step_table (entries_of width sig) (entries_of width twig) (entries twig) st.table st.next }
@@ -144,14 +144,14 @@ module _ (sig twig : List ℕ) where
   kept a b (on h e) g =
       rw (after_step a b e) (record {
         given = g.given;
-        in_range_law = omega (arith, g.in_range_law);
+        in_range = omega (arith, g.in_range);
         room = rw (table_length (entries_of width sig) (entries_of width twig) (entries twig) a.table a.next) g.room;
       })
 
   judged : (st : Preparing) → Judging.Judged Preparing prepared step whole Good st
   judged st =
       begun_judged prepared step Good (table_width * entries sig) sig twig (λ x. length x.table) (prep_in_range (entries sig)) (prep_run sig twig) st
-      (λ h x y. record { given = h; in_range_law = leb-true st.next (entries sig) x; room = y })
+      (λ h x y. record { given = h; in_range = leb-true st.next (entries sig) x; room = y })
 
   -- ---- one turn, from any state
 

@@ -36,7 +36,7 @@ five_fresh = refl
 
 module _ (table : List ℕ) (room : 10 ≤ length table) where
   pub five_good : Walked.Good five pair table fresh
-  five_good = record { given = five_given; in_range_law = range_facts 5 2 (entries_of width pair) fresh refl (omega arith) five_fresh; room = room }
+  five_good = record { given = five_given; in_range = range_facts 5 2 (entries_of width pair) fresh refl (omega arith) five_fresh; room = room }
 
   module _ (b : ℕ) (r : WalkTurn) (p : WalkPromise five pair table b fresh r) where
     pub five_count : (j : ℕ) → Steps Walk ended (Walked.step five pair table) j fresh r.walk → r.steps ≡ j
@@ -46,7 +46,7 @@ module _ (table : List ℕ) (room : 10 ≤ length table) where
     five_in_range = Walked.handed_back_in_range five pair table b fresh refl r p five_fresh
 
   pub five_ready : Prepared.Good five pair (preparing (prep_at 5) table)
-  five_ready = record { given = five_given; in_range_law = omega arith; room = room }
+  five_ready = record { given = five_given; in_range = omega arith; room = room }
 
   pub five_prep_count : (b : ℕ) (r : PrepTurn) (left : List ℕ) → PrepPromise five pair table b (prep_at 5) r left
       → (j : ℕ) → Steps Preparing prepared (Prepared.step five pair) j (preparing (prep_at 5) table) (preparing r.state left) → r.steps ≡ j

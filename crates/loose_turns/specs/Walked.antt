@@ -63,13 +63,13 @@ module _ (sig twig table : List ℕ) where
   -- the twig and the signature's length are accepted, the walk is in its ranges, and the room is enough
   pub record Good (w : Walk) : Type 0 where
     pub given : (given_of sig twig).reason ≡ 1
-    pub in_range_law : Ranges (entries sig) (entries twig) t w
+    pub in_range : Ranges (entries sig) (entries twig) t w
     pub room : table_width * entries sig ≤ length table
 
   pub run_is : (b : ℕ) (w : Walk) → Good w → whole b w ≡ turn Walk ended step b w
   run_is b w g =
       begun_run (table_width * entries sig) sig twig (length table) w (walk_fits sig twig w) (walk_run sig twig table b w) g.given
-      (range_yes (entries sig) (entries twig) t w g.in_range_law) g.room
+      (range_yes (entries sig) (entries twig) t w g.in_range) g.room
 
   few : (given_of sig twig).reason ≡ 1 → entries twig ≤ 16
   few g = (given_twig sig twig g).small
@@ -77,19 +77,19 @@ module _ (sig twig table : List ℕ) where
   pub kept : (a b : Walk) → Step Walk ended step a b → Good a → Good b
   kept a b (on h e) g = record {
     given = g.given;
-    in_range_law = step_moved (entries sig) (entries twig) t (given_parents sig twig g.given) (few g.given) (entries_of width sig) (can table) a h g.in_range_law b e;
+    in_range = step_moved (entries sig) (entries twig) t (given_parents sig twig g.given) (few g.given) (entries_of width sig) (can table) a h g.in_range b e;
     room = g.room;
   }
   kept a b (found h e) g = record {
     given = g.given;
-    in_range_law = step_answered (entries sig) (entries twig) t (given_parents sig twig g.given) (few g.given) (entries_of width sig) (can table) a h g.in_range_law b e;
+    in_range = step_answered (entries sig) (entries twig) t (given_parents sig twig g.given) (few g.given) (entries_of width sig) (can table) a h g.in_range b e;
     room = g.room;
   }
 
   judged : (w : Walk) → length w.images ≡ 16 → Judging.Judged Walk ended step whole Good w
   judged w full =
       begun_judged ended step Good (table_width * entries sig) sig twig (λ x. length table) (walk_fits sig twig) (walk_run sig twig table) w
-      (λ h x y. record { given = h; in_range_law = range_facts (entries sig) (entries twig) t w full (few h) x; room = y })
+      (λ h x y. record { given = h; in_range = range_facts (entries sig) (entries twig) t w full (few h) x; room = y })
 
   -- ---- one turn, from any walk
 
@@ -108,7 +108,7 @@ module _ (sig twig table : List ℕ) where
       where
         go : Judging.Judged Walk ended step whole Good w → walk_fits sig twig (whole b w).state ≡ true
         go (Judging.Judged.runs g) =
-            range_yes (entries sig) (entries twig) t (whole b w).state (Judging.good_kept Walk ended step whole Good run_is kept b w g).in_range_law
+            range_yes (entries sig) (entries twig) t (whole b w).state (Judging.good_kept Walk ended step whole Good run_is kept b w g).in_range
         go (Judging.Judged.refuses u v e) = rw (e b) l
 
     pub stops_before_the_fault : Good w → (x : Refusal) → r.stop ≡ Stop.Refused x
@@ -138,8 +138,8 @@ module _ (sig twig table : List ℕ) where
   -- ---- counts
 
   leads_on : (a b : Walk) → Good a → Step Walk ended step a b → Less (trail a) (trail b)
-  leads_on a b g (on h e) = progress (entries sig) (entries twig) (entries_of width sig) t (can table) (few g.given) b a g.in_range_law h (inl e)
-  leads_on a b g (found h e) = progress (entries sig) (entries twig) (entries_of width sig) t (can table) (few g.given) b a g.in_range_law h (inr e)
+  leads_on a b g (on h e) = progress (entries sig) (entries twig) (entries_of width sig) t (can table) (few g.given) b a g.in_range h (inl e)
+  leads_on a b g (found h e) = progress (entries sig) (entries twig) (entries_of width sig) t (can table) (few g.given) b a g.in_range h (inr e)
 
   pub count_unique : {i j : ℕ} {a b : Walk} → Good a → Steps Walk ended step i a b → Steps Walk ended step j a b → i ≡ j
   count_unique g m w =

@@ -169,7 +169,7 @@ pub prepare_fault : Laws.AtFault Preparing prepared (Prepared.step two_roots pai
     (Prepared.turned_of (prep_back roots_prepared).turn (prep_back roots_prepared).left) 11 0
 prepare_fault =
     Prepared.stops_before_the_fault two_roots pair four_zeros 9 (prep_at 2) (prep_back roots_prepared).turn (prep_back roots_prepared).left
-    (prep_handed roots_prepared) (record { given = roots_given; in_range_law = omega arith; room = omega arith }) eleven roots_refused
+    (prep_handed roots_prepared) (record { given = roots_given; in_range = omega arith; room = omega arith }) eleven roots_refused
 
 -- ---- turns of the walk: cut, kept, in range, before a fault
 
@@ -240,5 +240,5 @@ short_refused = refl
 pub walk_fault : Laws.AtFault Walk ended (Walked.step wrong_ff pair second_only) 9 fresh (Walked.turned_of (walk_back short_walked)) 11 0
 walk_fault =
     Walked.stops_before_the_fault wrong_ff pair second_only 9 fresh refl (walk_back short_walked) (walk_handed short_walked)
-    (record { given = short_given; in_range_law = range_facts 2 2 (entries_of width pair) fresh refl (omega arith) short_fresh; room = omega arith })
+    (record { given = short_given; in_range = range_facts 2 2 (entries_of width pair) fresh refl (omega arith) short_fresh; room = omega arith })
     eleven short_refused
