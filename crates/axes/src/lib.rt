@@ -21,7 +21,7 @@ use climb::find_above;
 use marks::{is_fine, write_marked};
 use one_pass::axis_without_position;
 use searching::find_named;
-use terms::{BAD_ARGUMENT, Kind, PreRank, Refusal, Verdict, Written};
+use terms::{Fault, Kind, PreRank, Refusal};
 
 // The rank of the element that is kept for one context, or 0, on an axis that is not one of ancestors. Where all ranks of a range are on the axis, only
 // the name is asked for.
@@ -90,7 +90,7 @@ fn select(
     test: u16,
     p: u16,
     room: &mut [u16],
-) -> Written
+) -> Result<usize, Refusal>
     requires { Ready sig.now n × (axis ≤ 10) × (1 ≤ p) × (within n contexts.now ≡ true) }
     ensures { Leaves (room_for room.old (answer_of axis n (entries_of width sig.now).fa (entries_of width sig.now).name test p contexts.now)) result room.new }
 {
@@ -107,7 +107,7 @@ fn axis_within(
     test: u16,
     p: u16,
     room: &mut [u16],
-) -> Written
+) -> Result<usize, Refusal>
     requires { Ready sig.now (entries sig.now) × (1 ≤ p) }
     ensures { Leaves (axis_within sig.now contexts.now axis test p room.old) result room.new }
 {
@@ -115,10 +115,7 @@ fn axis_within(
     if is_fine(n, contexts, axis) {
         return select(sig, n, contexts, axis, test, p, room);
     }
-    Written::Refused(Refusal {
-        number: BAD_ARGUMENT,
-        entry: PreRank(0),
-    })
+    Err(Fault::BadArgument.into())
 }
 
 // What an axis call with a position answers and leaves.
@@ -129,14 +126,14 @@ fn axis_with_position(
     name: u16,
     position: u16,
     room: &mut [u16],
-) -> Written
+) -> Result<usize, Refusal>
     requires { 1 ≤ position }
     ensures { AxisPromise sig.now contexts.now axis name position room.old result room.new }
 {
     let verdict = check_whole(Kind::Data, sig);
     match verdict {
-        Verdict::Accepted => axis_within(sig, contexts, axis, name, position, room),
-        Verdict::Refused(refused) => Written::Refused(refused),
+        Ok(()) => axis_within(sig, contexts, axis, name, position, room),
+        Err(refused) => Err(refused),
     }
 }
 
@@ -149,7 +146,7 @@ pub fn axis(
     name: u16,
     position: u16,
     room: &mut [u16],
-) -> Written
+) -> Result<usize, Refusal>
     ensures { AxisPromise sig.now contexts.now axis name position room.old result room.new }
 {
     if position == 0 {

@@ -3,7 +3,7 @@
 --   Works, axis_works_exactly   an axis call works exactly if a tree yields the list, the contexts are elements of it and the room is long enough
 --   which                   the check refused, an argument did, the room did, or it worked
 --   refused_number          which number a refused axis call gives, and when
-use Rattle.std.specs.Prelude.{ℕ, ◌≤◌, ◌<◌, ◌≡◌, refl, ◌⊎◌, Bool, true, ◌&&◌, length, ltb, leb}
+use Rattle.std.specs.Prelude.{ℕ, ◌≤◌, ◌<◌, ◌≡◌, refl, ◌⊎◌, Bool, true, ◌&&◌, length, ltb, leb, Ok, Err}
 use Rattle.std.proofs.Common.{ap, ◌∙◌, sym, subst, inr, arith, ltb-true, leb-true}
 use Rattle.std.proofs.Math.Logic.{inl, ⊎_elim}
 use mathlib.Core.List.Memᴰ
@@ -19,10 +19,8 @@ use Rattle.trees.specs.Ranks.{pre}
 use Rattle.trees.specs.NodeRanks.{node_at}
 use Rattle.trees.specs.NodeOrder.{pre_before}
 use Rattle.terms.specs.declared.Kind.{Kind}
-use Rattle.terms.specs.declared.Verdict.{Verdict}
 use Rattle.terms.specs.declared.Refusal.{Refusal}
-use Rattle.terms.specs.declared.Written.{Written}
-use Rattle.terms.specs.Stops.{Answered, worked, refused_as, answered}
+use Rattle.terms.specs.Stops.{Answered, worked, refused_as, answered, Written}
 use Rattle.checking.specs.Whole.{whole_of, WholePromise}
 use Rattle.checked.specs.Yields.{Words, Yields}
 use Rattle.checked.specs.Accepted.{tree_of}
@@ -89,11 +87,11 @@ pub record Works (s contexts : List ℕ) (axis name p : ℕ) (room : List ℕ) :
 
 module _ (s : List ℕ) (w : Words s) (contexts : List ℕ) (axis name p : ℕ) (room : List ℕ) (r : Written) (after : List ℕ)
     (h : AxisPromise s contexts axis name p room r after) where
-  pub axis_works : Works s contexts axis name p room → (k : ℕ) × (r ≡ Written.Length k)
+  pub axis_works : Works s contexts axis name p room → (k : ℕ) × (r ≡ Ok k)
   axis_works k =
       let q = subst (λ (cs : List ℕ). AxisPromise s cs axis name p room r after) (sym k.ranks) h in
       let a = axis_is_xpath s w k.yields k.elements k.order axis name p k.small room r after q in
-      (length a.0, answered_apart r (Written.Length (length a.0)) (a.2.enough (k.fits a.0 a.1)).0)
+      (length a.0, answered_apart r (Ok (length a.0)) (a.2.enough (k.fits a.0 a.1)).0)
 
   -- ---- which case an answer is
 
@@ -104,20 +102,20 @@ module _ (s : List ℕ) (w : Words s) (contexts : List ℕ) (axis name p : ℕ) 
 
   -- an argument is refused
   pub record BadArgument : Type 0 where
-    pub checked : WholePromise Kind.Data s Verdict.Accepted
+    pub checked : WholePromise Kind.Data s (Ok tt)
     pub bad : arguments_fine axis (entries s) contexts ≡ false
     pub said : answered r ≡ refused_as 8 0
 
   -- the answer is longer than the room
   pub record NoRoom : Type 0 where
-    pub checked : WholePromise Kind.Data s Verdict.Accepted
+    pub checked : WholePromise Kind.Data s (Ok tt)
     pub fine : arguments_fine axis (entries s) contexts ≡ true
     pub longer : length room < length (answer_in s contexts axis name p)
     pub said : answered r ≡ refused_as 10 0
 
   -- it worked
   pub record Done : Type 0 where
-    pub checked : WholePromise Kind.Data s Verdict.Accepted
+    pub checked : WholePromise Kind.Data s (Ok tt)
     pub fine : arguments_fine axis (entries s) contexts ≡ true
     pub said : answered r ≡ worked (length (answer_in s contexts axis name p))
 
@@ -137,11 +135,11 @@ module _ (s : List ℕ) (w : Words s) (contexts : List ℕ) (axis name p : ℕ) 
           let z : axis_answer s contexts axis name p room ≡ refused_left room (whole_of Kind.Data s).number (whole_of Kind.Data s).entry = simp q in
           inl (record { faulty = q; said = told z })
 
-      accepted : WholePromise Kind.Data s Verdict.Accepted → Case
+      accepted : WholePromise Kind.Data s (Ok tt) → Case
       accepted a = go (arguments_fine axis (entries s) contexts) refl
         where
           e : axis_answer s contexts axis name p room ≡ axis_within s contexts axis name p room
-          e = after_accepted s (refused_left room) (axis_within s contexts axis name p room) Verdict.Accepted a refl
+          e = after_accepted s (refused_left room) (axis_within s contexts axis name p room) (Ok tt) a refl
 
           go : (b : Bool) → arguments_fine axis (entries s) contexts ≡ b → Case
           go false q = inr (inl (record { checked = a; bad = q; said = told (e ∙ within_bad s contexts axis name p room q) }))
@@ -172,7 +170,7 @@ module _ (s : List ℕ) (w : Words s) (contexts : List ℕ) (axis name p : ℕ) 
       ⊎ (Why why 8 0 (arguments_fine axis (entries s) contexts ≡ false)
       ⊎ Why why 10 0 (length room < length (answer_in s contexts axis name p)))
 
-  pub refused_number : (why : Refusal) → r ≡ Written.Refused why → Refusing why
+  pub refused_number : (why : Refusal) → r ≡ Err why → Refusing why
   refused_number why e = go which
     where
       number : (t : Answered) → answered r ≡ t → why.number ≡ t.number
@@ -189,10 +187,10 @@ module _ (s : List ℕ) (w : Words s) (contexts : List ℕ) (axis name p : ℕ) 
 
   -- ---- it works only then
 
-  never : {number entry : ℕ} (k : ℕ) → r ≡ Written.Length k → answered r ≡ refused_as number entry → ⊥
+  never : {number entry : ℕ} (k : ℕ) → r ≡ Ok k → answered r ≡ refused_as number entry → ⊥
   never k e q = let z : ◌≡◌ {A = ℕ} 0 1 = ap (λ (x : Answered). x.refused) (sym (ap answered e) ∙ q) in omega arith
 
-  pub works_only : (k : ℕ) → r ≡ Written.Length k → Works s contexts axis name p room
+  pub works_only : (k : ℕ) → r ≡ Ok k → Works s contexts axis name p room
   works_only k e = go which
     where
       long_enough : (y : Yields Kind.Data s) (xs : List (Node (whole y.tree))) → InOrder xs → map pre xs ≡ contexts → axis ≤ 10
@@ -209,7 +207,7 @@ module _ (s : List ℕ) (w : Words s) (contexts : List ℕ) (axis name p : ℕ) 
       go (inr (inl c)) = absurd (never k e c.said)
       go (inr (inr (inl c))) = absurd (never k e c.said)
       go (inr (inr (inr c))) =
-          let y = (whole_exactly Kind.Data s w Verdict.Accepted c.checked).sound refl in
+          let y = (whole_exactly Kind.Data s w (Ok tt) c.checked).sound refl in
           let f = fine_inverse axis (entries s) contexts c.fine in
           let n = (tree_of s y.tree y.is).count in
           let x = contexts_are_elements (whole y.tree) contexts (subst (λ (i : ℕ). within i contexts ≡ true) (sym n) f.ranks) f.rising in
@@ -224,8 +222,8 @@ module _ (s : List ℕ) (w : Words s) (contexts : List ℕ) (axis name p : ℕ) 
 
   -- both ways
   pub record WorksExactly : Type 0 where
-    pub sound : (k : ℕ) → r ≡ Written.Length k → Works s contexts axis name p room
-    pub complete : Works s contexts axis name p room → (k : ℕ) × (r ≡ Written.Length k)
+    pub sound : (k : ℕ) → r ≡ Ok k → Works s contexts axis name p room
+    pub complete : Works s contexts axis name p room → (k : ℕ) × (r ≡ Ok k)
 
   pub axis_works_exactly : WorksExactly
   axis_works_exactly = record { sound = works_only; complete = axis_works }

@@ -2,7 +2,7 @@
 --   axis_is_xpath        an axis call answers the elements of XPath's node set, in document order, each once
 --   level_is_ancestors   a level call answers the number of ancestors
 --   block_is_subtree     a block has the entries of an element and of all below it, and no other
-use Rattle.std.specs.Prelude.{ℕ, ◌+◌, ◌*◌, ◌-◌, ◌≤◌, ◌<◌, ◌≡◌, ◌⊎◌, true, length, drop}
+use Rattle.std.specs.Prelude.{ℕ, ◌+◌, ◌*◌, ◌-◌, ◌≤◌, ◌<◌, ◌≡◌, ◌⊎◌, true, length, drop, Ok}
 use Rattle.std.proofs.Math.Path.{refl, ap}
 use Rattle.std.proofs.Common.{◌∙◌, sym, inl, inr, ⊎_elim, arith, eq-or-lt_of_le}
 use mathlib.Core.List.Memᴰ
@@ -18,9 +18,7 @@ use Rattle.trees.specs.NodeOrder.{before_pre}
 use Rattle.trees.specs.NodeAncestors.{ancestor_below, below_ancestor}
 use Rattle.trees.specs.Meanings.{below_ff, ff_below}
 use Rattle.terms.specs.declared.Kind.{Kind}
-use Rattle.terms.specs.declared.Verdict.{Verdict}
-use Rattle.terms.specs.declared.Written.{Written}
-use Rattle.terms.specs.Stops.{worked, refused_as, answered}
+use Rattle.terms.specs.Stops.{worked, refused_as, answered, Written}
 use Rattle.checked.specs.Yields.{Words, Yields}
 use Rattle.checked.specs.Accepted.{TreeOf, tree_of}
 use Rattle.checked.specs.Wholly.{yields_accepted}
@@ -30,10 +28,8 @@ use Rattle.xpath.specs.Axes as Axes
 use Rattle.xpath.specs.OnNodes.{InOrder, Lists, InUnion}
 use Rattle.xpath.proofs.Says.{union_listed, axis_says}
 use Rattle.xpath.specs.NodeLists.{selected}
-use Rattle.blocks.specs.declared.LevelAnswer.{LevelAnswer}
-use Rattle.blocks.specs.declared.PlaceAnswer.{PlaceAnswer}
-use Rattle.blocks.specs.Level.{level_worked, level_refused, level_within, LevelPromise}
-use Rattle.blocks.specs.Block.{place_refused, place_within, block_place, PlacePromise}
+use Rattle.blocks.specs.Level.{level_worked, level_refused, level_within, LevelPromise, LevelAnswer}
+use Rattle.blocks.specs.Block.{place_refused, place_within, block_place, PlacePromise, PlaceAnswer}
 use Rattle.terms.specs.Room.{Left, refused_left, room_for}
 use Rattle.marks.specs.Axis.{axis_within, axis_answer, answer_in, AxisPromise}
 use Rattle.blocks.specs.Checked.{after_check}
@@ -81,7 +77,7 @@ module _ (s : List ℕ) (w : Words s) (y : Yields Kind.Data s) where
 
       left : axis_answer s (map pre xs) axis name p room ≡ room_for room (answer_in s (map pre xs) axis name p)
       left =
-          after_accepted s (refused_left room) (axis_within s (map pre xs) axis name p room) Verdict.Accepted (yields_accepted Kind.Data s y) refl
+          after_accepted s (refused_left room) (axis_within s (map pre xs) axis name p room) (Ok tt) (yields_accepted Kind.Data s y) refl
           ∙ within_fine s (map pre xs) axis name p room
           (fine_low axis (entries s) (map pre xs) small ∙ simp (ranks_within xs, ranks_rise xs o))
 
@@ -100,7 +96,7 @@ module _ (s : List ℕ) (w : Words s) (y : Yields Kind.Data s) where
   -- ---- the level
 
   pub level_is_ancestors : (x : Node (whole t)) (r : LevelAnswer) → LevelPromise s (pre x) r
-      → (l : List (Node (whole t))) × Lists (λ z. Ancestor z x) l × (r ≡ LevelAnswer.Level (length l))
+      → (l : List (Node (whole t))) × Lists (λ z. Ancestor z x) l × (r ≡ Ok (length l))
   unfolding on_axis Axes.level_of
   level_is_ancestors x r h =
       let e = entries_of width s in
@@ -111,12 +107,12 @@ module _ (s : List ℕ) (w : Words s) (y : Yields Kind.Data s) where
           sound = λ z m. (axis_says t e of.holds 5 x z).says (c.1.sound z m).0;
           complete = λ z a. c.1.complete z ((axis_says t e of.holds 5 x z).holds a) (pre_high z);
         },
-        level_apart r (LevelAnswer.Level (length c.0)) (h ∙ told ∙ ap level_worked (counted c.0 c.1.ranks)),
+        level_apart r (Ok (length c.0)) (h ∙ told ∙ ap level_worked (counted c.0 c.1.ranks)),
       )
     where
       told : after_check s level_refused (level_within s (pre x)) ≡ level_worked (Axes.level_of (entries s) (entries_of width s).fa (pre x))
       told =
-          after_accepted s level_refused (level_within s (pre x)) Verdict.Accepted (yields_accepted Kind.Data s y) refl
+          after_accepted s level_refused (level_within s (pre x)) (Ok tt) (yields_accepted Kind.Data s y) refl
           ∙ level_yes s (pre x) (rank_yes (entries s) (pre x) (pre_low x) (omega (arith, pre_high x, of.count)))
 
       counted : (l : List (Node (whole t))) → up_to (size (whole t)) (λ j. on_axis 5 (size (whole t)) (entries_of width s).fa (pre x) j) ≡ map pre l
@@ -131,15 +127,15 @@ module _ (s : List ℕ) (w : Words s) (y : Yields Kind.Data s) where
     pub before : 4 * pre z ≤ first + count
 
   pub block_is_subtree : (x : Node (whole t)) (r : PlaceAnswer) → PlacePromise s (pre x) r
-      → (first : ℕ) × (count : ℕ) × (r ≡ PlaceAnswer.Numbers first count)
+      → (first : ℕ) × (count : ℕ) × (r ≡ Ok (first, count))
       × ((z : Node (whole t)) → EntryIn z first count → (x ≡ z) ⊎ Ancestor x z)
       × ((z : Node (whole t)) → (x ≡ z) ⊎ Ancestor x z → EntryIn z first count)
   block_is_subtree x r h =
-      (_, _, place_apart r (PlaceAnswer.Numbers _ _) (h ∙ told), inner, outer)
+      (_, _, place_apart r (Ok (_, _)) (h ∙ told), inner, outer)
     where
       told : after_check s place_refused (place_within s (pre x)) ≡ block_place s (pre x)
       told =
-          after_accepted s place_refused (place_within s (pre x)) Verdict.Accepted (yields_accepted Kind.Data s y) refl
+          after_accepted s place_refused (place_within s (pre x)) (Ok tt) (yields_accepted Kind.Data s y) refl
           ∙ place_yes s (pre x) (rank_yes (entries s) (pre x) (pre_low x) (omega (arith, pre_high x, of.count)))
 
       inner : (z : Node (whole t)) → EntryIn z (4 * (pre x - 1)) (4 * ((entries_of width s).ff (pre x) - pre x)) → (x ≡ z) ⊎ Ancestor x z

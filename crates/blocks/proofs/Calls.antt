@@ -4,6 +4,7 @@
 --   rank_…            whether a rank is one of an entry
 --   level_…, place_…  which case of an answer holds
 --   part_…            the part that a place tells
+use Rattle.std.specs.Prelude.{Ok, Err}
 use Prim.Native.Nat.{ℕ, ◌+◌, ◌*◌, ◌≤◌, ◌<◌}
 use native.Mathlib.Omega.{arith}
 use mathlib.Core.Path.{◌≡◌, refl, ap, ◌∙◌, sym, subst}
@@ -18,22 +19,20 @@ use Rattle.trees.specs.Tree.{whole}
 use Rattle.trees.specs.Signature.{entries_of, width, entries}
 use Rattle.trees.specs.Listed.{signature_length}
 use Rattle.terms.specs.declared.Kind.{Kind}
-use Rattle.terms.specs.declared.Verdict.{Verdict}
 use Rattle.terms.specs.declared.Refusal.{Refusal}
 use Rattle.turns.specs.Turn.{Halt}
 use Rattle.terms.specs.Kinds.{most}
 use Rattle.checking.specs.Rule.{fresh}
 use Rattle.checking.specs.Turn.{turn_of}
-use Rattle.terms.specs.Stops.{Told, verdict_told, halt_told}
+use Rattle.terms.specs.Stops.{Told, verdict_told, halt_told, Verdict}
 use Rattle.checking.specs.Whole.{whole_of, WholePromise}
 use Rattle.checked.specs.Wholly.{accepted_tree}
 use Rattle.xpath.specs.Axes.{level_of}
 use Rattle.blocks.specs.Checked.{after_check, is_rank, Ready}
 use Rattle.blocks.specs.Level.{level_worked, level_refused, level_within}
-use Rattle.blocks.specs.Block.{Placed, place_told, place_refused, block_place, place_within, place_answer, PlacePromise, part_at}
-use Rattle.blocks.specs.declared.PlaceAnswer.{PlaceAnswer}
+use Rattle.blocks.specs.Block.{Placed, place_told, place_refused, block_place, place_within, place_answer, PlacePromise, part_at, PlaceAnswer}
 
-pub ready_of : (s : List ℕ) (v : Verdict) → WholePromise Kind.Data s v → v ≡ Verdict.Accepted → Ready s (entries s)
+pub ready_of : (s : List ℕ) (v : Verdict) → WholePromise Kind.Data s v → v ≡ Ok tt → Ready s (entries s)
 ready_of s v p e =
     let x = accepted_tree Kind.Data s (subst (WholePromise Kind.Data s) e p) in
     record {
@@ -45,12 +44,12 @@ ready_of s v p e =
 -- ---- after the check
 
 module _ {A : Type 0} (s : List ℕ) (refuse : ℕ → ℕ → A) (a : A) where
-  pub after_accepted : (v : Verdict) → WholePromise Kind.Data s v → v ≡ Verdict.Accepted → after_check s refuse a ≡ a
+  pub after_accepted : (v : Verdict) → WholePromise Kind.Data s v → v ≡ Ok tt → after_check s refuse a ≡ a
   unfolding after_check
   after_accepted v p e =
       ap (λ (t : Told). pick (eqb t.reason 1) a (refuse t.number t.entry)) (sym p ∙ ap verdict_told e)
 
-  pub after_refused : (v : Verdict) (r : Refusal) → WholePromise Kind.Data s v → v ≡ Verdict.Refused r
+  pub after_refused : (v : Verdict) (r : Refusal) → WholePromise Kind.Data s v → v ≡ Err r
       → after_check s refuse a ≡ refuse r.number r.entry.0
   unfolding after_check
   after_refused v r p e =
@@ -108,13 +107,13 @@ module _ (s : List ℕ) (i : ℕ) where
 -- ---- where a block lies
 
 -- the whole check accepts, or its stop is no end
-accepted_or : (h : Halt) → (verdict_told Verdict.Accepted ≡ halt_told h) ⊎ (eqb (halt_told h).reason 1 ≡ false)
+accepted_or : (h : Halt) → (verdict_told (Ok tt) ≡ halt_told h) ⊎ (eqb (halt_told h).reason 1 ≡ false)
 accepted_or Halt.answer = inr refl
 accepted_or Halt.end = inl refl
 accepted_or Halt.budget = inr refl
 accepted_or (Halt.refusal number entry) = inr refl
 
-pub accepted_or_not : (s : List ℕ) → WholePromise Kind.Data s Verdict.Accepted ⊎ (eqb (whole_of Kind.Data s).reason 1 ≡ false)
+pub accepted_or_not : (s : List ℕ) → WholePromise Kind.Data s (Ok tt) ⊎ (eqb (whole_of Kind.Data s).reason 1 ≡ false)
 accepted_or_not s = accepted_or (turn_of Kind.Data s (2 * most Kind.Data + 1) fresh).halt
 
 module _ (s : List ℕ) (i : ℕ) where
@@ -130,20 +129,20 @@ module _ (s : List ℕ) (i : ℕ) where
   unfolding after_check
   place_inside =
       ⊎_elim
-      (λ (p : WholePromise Kind.Data s Verdict.Accepted).
-      rw (after_accepted s place_refused (place_within s i) Verdict.Accepted p refl)
-      (place_ends (is_rank (entries s) i) refl (ready_of s Verdict.Accepted p refl)))
+      (λ (p : WholePromise Kind.Data s (Ok tt)).
+      rw (after_accepted s place_refused (place_within s i) (Ok tt) p refl)
+      (place_ends (is_rank (entries s) i) refl (ready_of s (Ok tt) p refl)))
       (λ (n : eqb (whole_of Kind.Data s).reason 1 ≡ false). simp n (omega arith))
       (accepted_or_not s)
 
-  pub part_of : (r : PlaceAnswer) (first count : ℕ) → PlacePromise s i r → r ≡ PlaceAnswer.Numbers first count
+  pub part_of : (r : PlaceAnswer) (first count : ℕ) → PlacePromise s i r → r ≡ Ok (first, count)
       → take count (drop first s) ≡ part_at s (place_answer s i)
   part_of r first count p e = ap (part_at s) (ap place_told (sym e) ∙ p)
 
-  pub part_inside : (r : PlaceAnswer) (first count : ℕ) → PlacePromise s i r → r ≡ PlaceAnswer.Numbers first count → first + count ≤ length s
+  pub part_inside : (r : PlaceAnswer) (first count : ℕ) → PlacePromise s i r → r ≡ Ok (first, count) → first + count ≤ length s
   part_inside r first count p e =
       let q = ap place_told (sym e) ∙ p in
       omega (arith, place_inside, ap (λ (x : Placed). x.first) q, ap (λ (x : Placed). x.count) q)
 
-  pub part_none : (r : PlaceAnswer) (why : Refusal) → PlacePromise s i r → r ≡ PlaceAnswer.Refused why → [] ≡ part_at s (place_answer s i)
+  pub part_none : (r : PlaceAnswer) (why : Refusal) → PlacePromise s i r → r ≡ Err why → [] ≡ part_at s (place_answer s i)
   part_none r why p e = ap (part_at s) (ap place_told (sym e) ∙ p)

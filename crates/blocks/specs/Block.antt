@@ -5,11 +5,11 @@
 --   PlacePromise s i r        r says just that
 --   part_at s p                the part of the numbers that lies there
 --   BlockPromise s i r        r is the part itself; refused, it is empty
-use Rattle.std.specs.Prelude.{ℕ, ◌*◌, ◌-◌, ◌≡◌, List, take, drop}
+use Rattle.std.specs.Prelude.{ℕ, ◌*◌, ◌-◌, ◌≡◌, List, take, drop, Ok, Err, Result}
 use Rattle.turns.specs.Pick.{pick}
 use Rattle.trees.specs.Signature.{entries_of, width, entries}
-use Rattle.blocks.specs.declared.PlaceAnswer.{PlaceAnswer}
 use Rattle.blocks.specs.Checked.{after_check, is_rank}
+use Rattle.terms.specs.declared.Refusal.{Refusal}
 
 -- whether it refused (0: it worked), the refusal's number, the place of the first number from 0, how many numbers, and the entry that the refusal names
 pub record Placed : Type 0 where
@@ -27,10 +27,14 @@ place_worked first count = record { refused = 0; number = 0; first = first; coun
 abbrev pub place_refused : ℕ → ℕ → Placed
 place_refused number entry = record { refused = 1; number = number; first = 0; count = 0; entry = entry }
 
+-- where a block lies: the place of its first number, counted from 0, and how many numbers it has; or why it is refused
+abbrev pub PlaceAnswer : Type 0
+PlaceAnswer = Result (ℕ × ℕ) Refusal
+
 -- what a call for a block's place answers
 abbrev pub place_told : PlaceAnswer → Placed
-place_told (PlaceAnswer.Numbers first count) = place_worked first count
-place_told (PlaceAnswer.Refused r) = place_refused r.number r.entry.0
+place_told (Ok (first, count)) = place_worked first count
+place_told (Err r) = place_refused r.number r.entry.0
 
 -- "entries i to ff−1"
 abbrev pub block_place : List ℕ → ℕ → Placed

@@ -3,12 +3,12 @@
 --   level_within s i         what is answered once the check has accepted
 --   level_answer s i         what is answered
 --   LevelPromise s i r      r says just that
-use Rattle.std.specs.Prelude.{ℕ, ◌≡◌, List}
+use Rattle.std.specs.Prelude.{ℕ, ◌≡◌, List, Ok, Err, Result}
 use Rattle.turns.specs.Pick.{pick}
 use Rattle.trees.specs.Signature.{entries_of, width, entries}
 use Rattle.xpath.specs.Axes.{level_of}
-use Rattle.blocks.specs.declared.LevelAnswer.{LevelAnswer}
 use Rattle.blocks.specs.Checked.{after_check, is_rank}
+use Rattle.terms.specs.declared.Refusal.{Refusal}
 
 -- whether it refused (0: it worked), the refusal's number, the level, and the entry that the refusal names
 pub record Leveled : Type 0 where
@@ -25,10 +25,14 @@ level_worked l = record { refused = 0; number = 0; level = l; entry = 0 }
 abbrev pub level_refused : ℕ → ℕ → Leveled
 level_refused number entry = record { refused = 1; number = number; level = 0; entry = entry }
 
+-- the level of an entry, or why it is refused
+abbrev pub LevelAnswer : Type 0
+LevelAnswer = Result ℕ Refusal
+
 -- what a level call answers
 abbrev pub level_told : LevelAnswer → Leveled
-level_told (LevelAnswer.Level l) = level_worked l
-level_told (LevelAnswer.Refused r) = level_refused r.number r.entry.0
+level_told (Ok l) = level_worked l
+level_told (Err r) = level_refused r.number r.entry.0
 
 -- "The level of an entry is the number of its ancestors.", and 8 for "an entry rank of 0 or over n"
 unfoldable pub level_within : List ℕ → ℕ → Leveled

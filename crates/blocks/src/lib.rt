@@ -10,21 +10,7 @@ ghost use Rattle.blocks.specs.Block.{place_told, place_within, PlacePromise, Blo
 
 use checking::check_whole;
 use entries::entry_number;
-use terms::{BAD_ARGUMENT, Kind, PreRank, Refusal, Verdict};
-
-// The level of an entry, or why it is refused.
-#[derive(Clone, Copy)]
-pub enum LevelAnswer {
-    Level(u16),
-    Refused(Refusal),
-}
-
-// Where a block lies: the place of its first number, counted from 0, and how many numbers it has; or why it is refused.
-#[derive(Clone, Copy)]
-pub enum PlaceAnswer {
-    Numbers(usize, usize),
-    Refused(Refusal),
-}
+use terms::{Fault, Kind, PreRank, Refusal};
 
 // The parent of an entry, or 0.
 pub fn parent(sig: &[u16], rank: PreRank) -> u16
@@ -77,31 +63,31 @@ fn climb(sig: &[u16], n: u16, start: u16) -> u16
 }
 
 // The level of an entry of a signature that was accepted.
-fn level_within(sig: &[u16], i: u16) -> LevelAnswer
+fn level_within(sig: &[u16], i: u16) -> Result<u16, Refusal>
     requires { Ready sig.now (entries sig.now) }
     ensures { level_told result ≡ level_within sig.now i }
 {
     let n = (sig.len() / 4) as u16;
     if is_rank(n, i) {
-        return LevelAnswer::Level(climb(sig, n, i));
+        return Ok(climb(sig, n, i));
     }
-    LevelAnswer::Refused(refusal(BAD_ARGUMENT))
+    Err(refusal(Fault::BadArgument))
 }
 
 // How many ancestors an entry has.
-pub fn level(sig: &[u16], rank: PreRank) -> LevelAnswer
+pub fn level(sig: &[u16], rank: PreRank) -> Result<u16, Refusal>
     ensures { LevelPromise sig.now rank.0 result }
 {
     let i = rank.0;
     let verdict = check_whole(Kind::Data, sig);
     match verdict {
-        Verdict::Accepted => level_within(sig, i),
-        Verdict::Refused(refused) => LevelAnswer::Refused(refused),
+        Ok(()) => level_within(sig, i),
+        Err(refused) => Err(refused),
     }
 }
 
 // Where the block of an entry lies in a signature that was accepted.
-fn place_within(sig: &[u16], i: u16) -> PlaceAnswer
+fn place_within(sig: &[u16], i: u16) -> Result<(usize, usize), Refusal>
     requires { Ready sig.now (entries sig.now) }
     ensures { place_told result ≡ place_within sig.now i }
 {
@@ -109,20 +95,20 @@ fn place_within(sig: &[u16], i: u16) -> PlaceAnswer
     if is_rank(n, i) {
         let first = i as usize;
         let past = first_past(sig, PreRank(i)) as usize;
-        return PlaceAnswer::Numbers(4 * (first - 1), 4 * (past - first));
+        return Ok((4 * (first - 1), 4 * (past - first)));
     }
-    PlaceAnswer::Refused(refusal(BAD_ARGUMENT))
+    Err(refusal(Fault::BadArgument))
 }
 
 // Where the block of an entry lies: entries i to ff-1.
-pub fn block_place(sig: &[u16], rank: PreRank) -> PlaceAnswer
+pub fn block_place(sig: &[u16], rank: PreRank) -> Result<(usize, usize), Refusal>
     ensures { PlacePromise sig.now rank.0 result }
 {
     let i = rank.0;
     let verdict = check_whole(Kind::Data, sig);
     match verdict {
-        Verdict::Accepted => place_within(sig, i),
-        Verdict::Refused(refused) => PlaceAnswer::Refused(refused),
+        Ok(()) => place_within(sig, i),
+        Err(refused) => Err(refused),
     }
 }
 
@@ -131,7 +117,7 @@ pub fn block<'a>(sig: &'a [u16], rank: PreRank) -> &'a [u16]
     ensures { BlockPromise sig.now rank.0 result.now }
 {
     let place = block_place(sig, rank);
-    let PlaceAnswer::Numbers(first, count) = place else {
+    let Ok((first, count)) = place else {
         return &sig[0..0];
     };
     let end = first + count;

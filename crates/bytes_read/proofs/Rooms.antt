@@ -1,6 +1,7 @@
 -- The room: which case of its promise holds, and stores one after the other.
 --   room_refused, room_short, room_written   the three cases
 --   front_sets                               stores from the front on leave the result there, and the rest as it was
+use Rattle.std.specs.Prelude.{Ok, Err}
 use Prim.Native.Nat.{ℕ, suc, ◌+◌, ◌≤◌, ◌<◌}
 use mathlib.Core.Path.{◌≡◌, refl, ap, ◌∙◌, sym}
 use mathlib.Core.List.{List, [], ◌∷◌, ◌++◌}
@@ -9,8 +10,7 @@ use native.Mathlib.Nat.{zero-add}
 use lib.ListN.{length, drop, set, length-append}
 use lib.Seq.{sets, sets-eq, length-sets}
 use borrow.Author.Tests.{eq-eqb, ne_eqb, le-leb, lt-leb}
-use Rattle.terms.specs.Stops.{Answered, answered, worked, refused_as}
-use Rattle.terms.specs.declared.Written.{Written}
+use Rattle.terms.specs.Stops.{Answered, answered, worked, refused_as, Written}
 use Rattle.terms.specs.Room.{Left, left_by, room_for, front_with, Leaves}
 
 pub front_sets : (result room : List ℕ) → length result ≤ length room → sets room 0 result ≡ front_with result room
@@ -19,7 +19,7 @@ front_sets result room h =
 
 -- a refusal by its two numbers
 abbrev pub refused_by : ℕ → ℕ → Written
-refused_by number entry = Written.Refused (record { number = number; entry = record { 0 = entry } })
+refused_by number entry = Err (record { number = number; entry = record { 0 = entry } })
 
 module _ (number entry : ℕ) (result room : List ℕ) where
   pub refused_is : (number ≡ 0 → ⊥) → left_by number entry result room ≡ record { answer = refused_as number entry; room = room }
@@ -64,7 +64,7 @@ module _ (number : ℕ) (result room : List ℕ) (w : Written) (f : ℕ) (is : f
   pub short_with : w ≡ refused_by 10 0 → f ≡ 0 → length room < length result → Leaves (left_by number 0 result room) w room
   short_with q h l = room_short number 0 result room w room (sym is ∙ h) l (ap answered q) refl
 
-  pub written_with : (k : ℕ) (after : List ℕ) → w ≡ Written.Length k → f ≡ 0 → k ≡ length result → length result ≤ length room
+  pub written_with : (k : ℕ) (after : List ℕ) → w ≡ Ok k → f ≡ 0 → k ≡ length result → length result ≤ length room
       → after ≡ front_with result room → Leaves (left_by number 0 result room) w after
   written_with k after q h e l r =
       room_written number 0 result room w after (sym is ∙ h) l

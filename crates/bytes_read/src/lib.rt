@@ -4,7 +4,7 @@
 ghost use Rattle.std.specs.Prelude.{◌≡◌, ◌+◌, get_or};
 ghost use Rattle.bytes_read.specs.Bytes.{number_at, marked};
 
-use terms::{PreRank, Refusal, Written};
+use terms::{PreRank, Refusal};
 
 // The byte at a place, 0 outside.
 pub fn byte_at(bytes: &[u8], at: usize) -> u8
@@ -47,10 +47,10 @@ pub fn is_marked(bytes: &[u8], at: usize, first: u8, second: u8) -> bool
 }
 
 // A refusal that names no entry.
-pub fn refused(number: u16) -> Written
+pub fn refused(number: u16) -> Result<usize, Refusal>
     ensures { result ≡ Written.Refused (record { number = number; entry = record { 0 = 0 } }) }
 {
-    Written::Refused(Refusal {
+    Err(Refusal {
         number,
         entry: PreRank(0),
     })

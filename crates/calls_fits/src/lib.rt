@@ -5,10 +5,10 @@ ghost use Rattle.std.specs.Prelude.{◌≡◌};
 ghost use Rattle.fits.specs.Stages.{stage_number};
 ghost use Rattle.calls_fits.specs.Fits.{stage_of, fit_state_of, fit_numbers, kept_of, FitSaid};
 
-use fits::{Fit, FitTurn};
+use fits::Fit;
 use fits_rows::Stage;
 use telling::tell_stop;
-use terms::PreRank;
+use terms::{PreRank, Turn};
 
 // The stage that a number up to 2 names.
 fn stage_of(stage: u16) -> Stage
@@ -74,7 +74,7 @@ fn kept(given: [u16; 3], after: Fit) -> [u16; 3]
 }
 
 // Puts the question that a turn leaves back into the numbers given, and tells what stopped it.
-pub fn tell_fit(given: [u16; 3], turned: FitTurn, state: &mut [u16; 3], out: &mut [u64; 3]) -> u16
+pub fn tell_fit(given: [u16; 3], turned: Turn<Fit>, state: &mut [u16; 3], out: &mut [u64; 3]) -> u16
     ensures { FitSaid given turned result state.new out.new }
 {
     let after = turned.state;

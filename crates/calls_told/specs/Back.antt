@@ -13,19 +13,15 @@ use Rattle.std.proofs.Math.Decide.{dec_le}
 use Rattle.std.proofs.lemmas.Bool.{eqb-false}
 use Rattle.turns.specs.Pick.{pick}
 use Rattle.checking.specs.declared.CheckState.{CheckState}
-use Rattle.checking.specs.declared.CheckTurn.{CheckTurn}
 use Rattle.preparing.specs.declared.Prep.{Prep}
-use Rattle.preparing.specs.declared.PrepTurn.{PrepTurn}
 use Rattle.preparing.specs.PrepTurn.{prep_at}
 use Rattle.walk_ranges.specs.declared.Phase.{Phase}
 use Rattle.walking.specs.declared.Walk.{Walk}
-use Rattle.walking.specs.declared.WalkTurn.{WalkTurn}
 use Rattle.walking.specs.Walking as walking
 use Rattle.telling.specs.States.{check_state_of, check_numbers, prepare_numbers, CheckSaid, PrepareSaid}
 use Rattle.telling.specs.Once.{one_said}
 use Rattle.fits_rows.specs.declared.Stage.{Stage}
 use Rattle.fits.specs.declared.Fit.{Fit}
-use Rattle.fits.specs.declared.FitTurn.{FitTurn}
 use Rattle.fits.specs.Stages.{stage_number}
 use Rattle.fits.specs.FitTurn.{fit_at}
 use Rattle.walk_numbers.specs.Walk as walks
@@ -35,6 +31,7 @@ use Rattle.calls_fits.specs.Fits as fits
 use Rattle.calls_fits.specs.Fits.{stage_of, fit_state_of, fit_numbers, FitSaid}
 use Rattle.calls_fits.proofs.Laws as fit
 use Rattle.calls_fits.proofs.Laws.{fit_outside, fit_inside, kept_fit}
+use Rattle.terms.specs.declared.Turn.{Turn}
 
 -- ---- numbers of a list from a place on
 
@@ -184,19 +181,19 @@ module _ {S : Type 0} {i : ℕ} {nowhere : S} {read : List ℕ → S} {numbers :
 
 -- ---- one result
 
-pub one_check_said : (t : CheckTurn) (r q : ℕ) (left later o p : List ℕ) → CheckSaid t r left o → CheckSaid t q later p
+pub one_check_said : (t : Turn CheckState) (r q : ℕ) (left later o p : List ℕ) → CheckSaid t r left o → CheckSaid t q later p
     → ((r ≡ q) × (o ≡ p)) × (left ≡ later)
 one_check_said t r q left later o p a b = (one_said _ _ r q o p a.says b.says, a.state ∙ sym b.state)
 
-pub one_prepare_said : (t : PrepTurn) (r q : ℕ) (left later o p : List ℕ) → PrepareSaid t r left o → PrepareSaid t q later p
+pub one_prepare_said : (t : Turn Prep) (r q : ℕ) (left later o p : List ℕ) → PrepareSaid t r left o → PrepareSaid t q later p
     → ((r ≡ q) × (o ≡ p)) × (left ≡ later)
 one_prepare_said t r q left later o p a b = (one_said _ _ r q o p a.says b.says, a.state ∙ sym b.state)
 
-pub one_walk_said : (l : List ℕ) (t : WalkTurn) (r q : ℕ) (left later o p : List ℕ) → WalkSaid l t r left o → WalkSaid l t q later p
+pub one_walk_said : (l : List ℕ) (t : Turn Walk) (r q : ℕ) (left later o p : List ℕ) → WalkSaid l t r left o → WalkSaid l t q later p
     → ((r ≡ q) × (o ≡ p)) × (left ≡ later)
 one_walk_said l t r q left later o p a b = (one_said _ _ r q o p a.says b.says, a.state ∙ sym b.state)
 
-pub one_fit_said : (l : List ℕ) (t : FitTurn) (r q : ℕ) (left later o p : List ℕ) → FitSaid l t r left o → FitSaid l t q later p
+pub one_fit_said : (l : List ℕ) (t : Turn Fit) (r q : ℕ) (left later o p : List ℕ) → FitSaid l t r left o → FitSaid l t q later p
     → ((r ≡ q) × (o ≡ p)) × (left ≡ later)
 one_fit_said l t r q left later o p a b = (one_said _ _ r q o p a.says b.says, a.state ∙ sym b.state)
 

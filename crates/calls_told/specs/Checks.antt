@@ -9,16 +9,14 @@
 --   check_called, check_called_law   what a call gives for a turn of the rule keeps its promise
 --   first                     a call of 3 steps on Ten
 --   ten_end, ten_twenty, ten_tree_law, ten_whole, ten_complete, ten_idle   used once on Ten: calls of 3 and 8,190 steps, and one of none
-use Rattle.std.specs.Prelude.{ℕ, ◌+◌, ◌*◌, ◌≡◌, refl, List, [], ◌∷◌, length, get_or}
+use Rattle.std.specs.Prelude.{ℕ, ◌+◌, ◌*◌, ◌≡◌, refl, List, [], ◌∷◌, length, get_or, Ok}
 use Rattle.std.proofs.Common.{ap, ◌∙◌, sym, subst, arith}
 use Rattle.turns.specs.Turn.{Turned, run, Steps}
 use Rattle.turns.specs.Chains.{Chain, one, more}
 use Rattle.trees.specs.Signature.{cell, entries_of, width, entries}
 use Rattle.terms.specs.declared.Kind.{Kind}
 use Rattle.checking.specs.declared.CheckState.{CheckState}
-use Rattle.checking.specs.declared.CheckTurn.{CheckTurn}
 use Rattle.terms.specs.declared.Stop.{Stop}
-use Rattle.terms.specs.declared.Verdict.{Verdict}
 use Rattle.terms.specs.Kinds.{any_name}
 use Rattle.checking.specs.Rule.{fresh, step_of, close_of, accepted, nameless, second_root, in_range}
 use Rattle.checking.specs.Turn.{TurnPromise, turn_of, turn_within}
@@ -36,12 +34,13 @@ use Rattle.telling.specs.States.{check_state_of, check_numbers, CheckSaid}
 use Rattle.signature_calls.specs.Check.{CheckTurnPromise}
 use Rattle.calls_told.specs.Back.{check_numbers_back}
 use Rattle.calls_told.specs.Chains.{Called, stop_number, steps, reason_end, no_steps, chain_ran}
+use Rattle.terms.specs.declared.Turn.{Turn}
 
 module _ (k : ℕ) (s : List ℕ) where
   -- ---- one call
 
   -- what the public turn hands back
-  abbrev public : ℕ → CheckState → CheckTurn
+  abbrev public : ℕ → CheckState → Turn CheckState
   public b st = handed (turn_of (kind_of k) s b st)
 
   -- the call tells what the public turn hands back
@@ -78,7 +77,7 @@ module _ (k : ℕ) (s : List ℕ) where
 
   -- the public turns that a chain of calls is
   pub record CheckRan (l : List ℕ) (B K : ℕ) (r : Called) : Type 0 where
-    pub last : CheckTurn
+    pub last : Turn CheckState
     pub chain : Turns (kind_of k) s (check_state_of l) B K last
     pub tells : CheckSaid last r.number r.left r.out
 
@@ -97,7 +96,7 @@ module _ (k : ℕ) (s : List ℕ) where
       }
 
   -- out[0] of a call is the number of the public stop
-  reason_is : (q : CheckTurn) (r : Called) → CheckSaid q r.number r.left r.out → stop_number r ≡ (told q.stop).reason
+  reason_is : (q : Turn CheckState) (r : Called) → CheckSaid q r.number r.left r.out → stop_number r ≡ (told q.stop).reason
   reason_is q r x = ap (λ (o : List ℕ). get_or o 0 0) x.says.out_is
 
   -- ---- the theorems of the check, of calls from the fresh state's numbers
@@ -120,7 +119,7 @@ module _ (k : ℕ) (s : List ℕ) where
 
   -- and the whole check accepts it, which is what preparing and walking ask for
   pub numbers_accepted : {B K : ℕ} {r : Called} → Words s → CheckCalls (1 ∷ 0 ∷ 0 ∷ []) B K r → stop_number r ≡ 1
-      → WholePromise (kind_of k) s Verdict.Accepted
+      → WholePromise (kind_of k) s (Ok tt)
   numbers_accepted w c h = yields_accepted (kind_of k) s ((numbers_accepted_exactly w c).sound h)
 
 -- ---- used once, on Ten
@@ -158,7 +157,7 @@ ten_words = small_words ten refl
 pub ten_tree_law : Yields Kind.Data ten
 ten_tree_law = (numbers_accepted_exactly 0 ten ten_words ten_chain).sound ten_end
 
-pub ten_whole : WholePromise Kind.Data ten Verdict.Accepted
+pub ten_whole : WholePromise Kind.Data ten (Ok tt)
 ten_whole = numbers_accepted 0 ten ten_words ten_chain ten_end
 
 pub ten_complete : stop_number last ≡ 1

@@ -16,7 +16,6 @@ use Rattle.terms.specs.declared.Stop.{Stop}
 use Rattle.terms.specs.Stops as stops
 use Rattle.checked.specs.Yields.{Words}
 use Rattle.twig_turns.specs.Grounds.{Accepted}
-use Rattle.walking.specs.declared.WalkTurn.{WalkTurn}
 use Rattle.walking.specs.Walking.{fresh}
 use Rattle.listed.specs.Questions.{Prepared, OnTheWay, start, handed}
 use Rattle.listed.specs.Exactly.{all_loose, AllOf, loose_exactly, end_steps_once, walk_within_law}
@@ -26,6 +25,8 @@ use Rattle.calls_told.specs.Chains.{Called, stop_number, reason_end}
 use Rattle.calls_told.specs.Checks.{CheckCalls, numbers_accepted}
 use Rattle.calls_told.specs.Prepares.{Readied, readied}
 use Rattle.calls_told.specs.Walks.{WalkTold, WalkCalls, tell_numbers, walk_chain}
+use Rattle.terms.specs.declared.Turn.{Turn}
+use Rattle.walking.specs.declared.Walk.{Walk}
 
 -- accepted, by calls of the check from 1, 0, 0: the signature as a data tree, 0, and the twig as a twig, 1
 pub numbers_question : (s tw : List ℕ) → Words s → Words tw → {A B J K : ℕ} {r u : Called} → CheckCalls 0 s (1 ∷ 0 ∷ 0 ∷ []) A J r → stop_number r ≡ 1
@@ -62,7 +63,7 @@ module _ (s tw left : List ℕ) where
   way (came f c) = let x = walk_chain s tw left c fresh (fresh_read f) in subst (OnTheWay s tw left) (sym x.told_as.reads) (handed x.chain)
 
   -- out[0] of a call is the number of the public stop
-  reason_is : (r : Called) (q : WalkTurn) → WalkTold s tw left r q → stop_number r ≡ (stops.told q.stop).reason
+  reason_is : (r : Called) (q : Turn Walk) → WalkTold s tw left r q → stop_number r ≡ (stops.told q.stop).reason
   reason_is r q x = ap (λ (o : List ℕ). get_or o 0 0) x.says.out_is
 
   module _ (accepted : Accepted s tw) (prepared : Readied s tw left) where

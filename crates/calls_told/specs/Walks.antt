@@ -30,7 +30,6 @@ use Rattle.twig_turns.proofs.Judged.{given_twig, begun_early}
 use Rattle.walk_ranges.specs.declared.Phase.{Phase}
 use Rattle.walk_ranges.proofs.Images.{place_length}
 use Rattle.walking.specs.declared.Walk.{Walk}
-use Rattle.walking.specs.declared.WalkTurn.{WalkTurn}
 use Rattle.walking.specs.Walking as walking
 use Rattle.walking.specs.Walking.{in_range, ended, bad_end, end_of, back, readied_at, readied, walk_on, step_of}
 use Rattle.walking.specs.WalkTurn.{walk_fits, walk_run, walk_turn_of, WalkPromise}
@@ -44,6 +43,7 @@ use Rattle.walk_numbers.proofs.Laws.{walk_outside, kept_walk}
 use Rattle.twig_calls.specs.Walk.{WalkTurnPromise}
 use Rattle.calls_told.specs.Back.{sixteen_whole, walk_back_law, walk_numbers_back, full, walk_saved, kept_read, kept_same}
 use Rattle.calls_told.specs.Chains.{Called, stop_number, steps, reason_budget, no_steps, chain_ran}
+use Rattle.terms.specs.declared.Turn.{Turn}
 
 -- the answer that a call told: out[0] is 0, and the first m of the numbers that it left are the images in twig preorder
 abbrev pub tell_numbers : ℕ → Called → List (List ℕ)
@@ -89,10 +89,10 @@ module _ (s tw table : List ℕ) where
   -- ---- one call
 
   -- what the public turn hands back
-  abbrev public : ℕ → Walk → WalkTurn
+  abbrev public : ℕ → Walk → Turn Walk
   public b w = walk_back (walk_turn_of s tw table b w)
 
-  written : (b : ℕ) (w : Walk) → length w.images ≡ 16 → Steps Walk ended (step s tw table) (public b w).steps w (public b w).walk
+  written : (b : ℕ) (w : Walk) → length w.images ≡ 16 → Steps Walk ended (step s tw table) (public b w).steps w (public b w).state
   written b w h = step_as_written s tw table b w h (public b w) (walk_handed (walk_turn_of s tw table b w))
 
   -- numbers that stand for no walk are refused, and left
@@ -128,11 +128,11 @@ module _ (s tw table : List ℕ) where
       (no_steps (written b (walk_of l) (full l)) (sym (ap (λ (o : List ℕ). get_or o 1 0) p.says.out_is) ∙ z))
 
   -- the call tells what the public turn hands back; the next call reads that walk; at an answer its images are the first numbers left
-  pub record WalkTold (r : Called) (q : WalkTurn) : Type 0 where
+  pub record WalkTold (r : Called) (q : Turn Walk) : Type 0 where
     pub says : TurnTold (stops.told q.stop) q.steps r.number r.out
-    pub reads : walk_of r.left ≡ q.walk
-    pub writes : q.stop ≡ Stop.Answer → r.left ≡ walk_numbers q.walk
-    pub sixteen_images : length q.walk.images ≡ 16
+    pub reads : walk_of r.left ≡ q.state
+    pub writes : q.stop ≡ Stop.Answer → r.left ≡ walk_numbers q.state
+    pub sixteen_images : length q.state.images ≡ 16
     pub few : q.stop ≡ Stop.Answer → entries tw ≤ 16
 
   pub said : (b : ℕ) (l : List ℕ) (r : Called) → WalkTurnPromise s tw table l b r.number r.left r.out → WalkTold r (public b (walk_of l))
@@ -163,7 +163,7 @@ module _ (s tw table : List ℕ) where
   walk_as_written l b r left out p =
       let x = said b l (record { number = r; left = left; out = out }) p in
       subst (λ (w : Walk). Steps Walk ended (step s tw table) (get_or out 1 0) (walk_of l) w) (sym x.reads)
-      (subst (λ (i : ℕ). Steps Walk ended (step s tw table) i (walk_of l) (public b (walk_of l)).walk)
+      (subst (λ (i : ℕ). Steps Walk ended (step s tw table) i (walk_of l) (public b (walk_of l)).state)
       (sym (ap (λ (o : List ℕ). get_or o 1 0) p.says.out_is)) (written b (walk_of l) (full l)))
 
   -- ---- calls one after the other
@@ -178,21 +178,21 @@ module _ (s tw table : List ℕ) where
   first_images m w l h =
       take-append-le m (sixteen w.images []) (w.node ∷ w.candidate.0 ∷ phase_number w.phase ∷ []) l ∙ ap (take m) (sixteen_whole w.images h)
 
-  tell_same : (r : Called) (q : WalkTurn) → WalkTold r q → tell_numbers (entries tw) r ≡ tell_of (entries tw) q
+  tell_same : (r : Called) (q : Turn Walk) → WalkTold r q → tell_numbers (entries tw) r ≡ tell_of (entries tw) q
   tell_same r q x =
       ap (λ (o : List ℕ). pick (eqb (get_or o 0 0) 0) (take (entries tw) r.left ∷ []) []) x.says.out_is ∙ by q.stop refl
     where
       by : (z : Stop) → q.stop ≡ z
-          → pick (eqb (stops.told z).reason 0) (take (entries tw) r.left ∷ []) [] ≡ questions.told z (take (entries tw) q.walk.images)
+          → pick (eqb (stops.told z).reason 0) (take (entries tw) r.left ∷ []) [] ≡ questions.told z (take (entries tw) q.state.images)
       by Stop.Answer e =
-          ap (λ (l : List ℕ). l ∷ []) (ap (take (entries tw)) (x.writes e) ∙ first_images (entries tw) q.walk (x.few e) x.sixteen_images)
+          ap (λ (l : List ℕ). l ∷ []) (ap (take (entries tw)) (x.writes e) ∙ first_images (entries tw) q.state (x.few e) x.sixteen_images)
       by Stop.End e = refl
       by Stop.Budget e = refl
       by (Stop.Refused y) e = refl
 
   -- the public turns that a chain of calls is
   pub record WalkRan (w : Walk) {l : List ℕ} {B K : ℕ} {r : Called} (c : WalkCalls l B K r) : Type 0 where
-    pub last : WalkTurn
+    pub last : Turn Walk
     pub total : ℕ
     pub chain : WalkTurns s tw table w B total last
     pub told_as : WalkTold r last
@@ -203,7 +203,7 @@ module _ (s tw table : List ℕ) where
   pub walk_chain : {l : List ℕ} {B K : ℕ} {r : Called} (c : WalkCalls l B K r) (w : Walk) → walk_of l ≡ w → WalkRan w c
   walk_chain c w e =
       let x = chain_ran (λ b from t. WalkTurnPromise s tw table from b t.number t.left t.out) (λ t. t.left) steps
-      (λ b from t. WalkPromise s tw table b from t) (λ t. t.walk) (λ t. t.steps) walk_of public WalkTold
+      (λ b from t. WalkPromise s tw table b from t) (λ t. t.state) (λ t. t.steps) walk_of public WalkTold
       (λ b w. walk_handed (walk_turn_of s tw table b w)) said (λ b l r p. (said b l r p).reads)
       (λ r q x. ap (λ (o : List ℕ). get_or o 1 0) x.says.out_is)
       (tell_numbers (entries tw)) (tell_of (entries tw)) tell_same (λ u. stop_number u ≡ 2) (λ u. u.stop ≡ Stop.Budget)

@@ -16,7 +16,6 @@ use Rattle.trees.specs.Facts.{Facts}
 use Rattle.trees.specs.FactsOf.{facts_of}
 use Rattle.terms.specs.declared.Kind.{Kind}
 use Rattle.checking.specs.declared.CheckState.{CheckState}
-use Rattle.checking.specs.declared.CheckTurn.{CheckTurn}
 use Rattle.terms.specs.declared.Stop.{Stop}
 use Rattle.terms.specs.Kinds.{any_name, most}
 use Rattle.checking.specs.Rule.{at, fresh, step_of, accepted}
@@ -30,6 +29,7 @@ use Rattle.checked.specs.Yields.{Words, Yields, Turns}
 use Rattle.checked.specs.Named.{root_fine, fine_named}
 use Rattle.checked.specs.Apart.{halt_told_law, told_halt, stop_of}
 use Rattle.checked.specs.Chained.{Fits, Ran, chain_ran, chain_length, run_moves}
+use Rattle.terms.specs.declared.Turn.{Turn}
 
 -- the tree of a list, with what every call above uses of it
 pub record TreeOf (s : List ℕ) (tree : Tree) : Type 0 where
@@ -73,7 +73,7 @@ module _ (k : Kind) (s : List ℕ) where
         steps = r.count;
       }
 
-  pub chain_sound : {B K : ℕ} {r : CheckTurn} → Turns k s fresh B K r → r.stop ≡ Stop.End → Sound K
+  pub chain_sound : {B K : ℕ} {r : Turn CheckState} → Turns k s fresh B K r → r.stop ≡ Stop.End → Sound K
   chain_sound {K = K} {r = r} c h = go (ℕ_discrete (length_fault (most k) width (length s)) 0)
     where
       go : Dec (length_fault (most k) width (length s) ≡ 0) → Sound K
@@ -97,7 +97,7 @@ module _ (k : Kind) (s : List ℕ) where
     is = x.read.is;
   }
 
-  pub accepted_sound : {B K : ℕ} {r : CheckTurn} → Words s → Turns k s fresh B K r → r.stop ≡ Stop.End → Yields k s × (K ≡ 2 * entries s)
+  pub accepted_sound : {B K : ℕ} {r : Turn CheckState} → Words s → Turns k s fresh B K r → r.stop ≡ Stop.End → Yields k s × (K ≡ 2 * entries s)
   accepted_sound w c h = let x = chain_sound c h in (sound_yields w x, x.steps)
 
   -- ---- where a tree yields the list, the end is reported
@@ -118,23 +118,23 @@ module _ (k : Kind) (s : List ℕ) where
         (root_fine (any_name k) e y.tree.name y.tree.below t.holds y.grown.named) t.count
 
     -- with 2×n steps to spend in all, the end
-    pub record Complete (B K : ℕ) (r : CheckTurn) : Type 0 where
+    pub record Complete (B K : ℕ) (r : Turn CheckState) : Type 0 where
       pub enough : 2 * entries s ≤ B
       pub steps : K ≡ 2 * entries s
       pub stop : r.stop ≡ Stop.End
       pub state : r.state ≡ at (entries s + 1) 0 (entries s)
 
     -- with fewer, the budget, after all of them
-    pub record Short (B K : ℕ) (r : CheckTurn) : Type 0 where
+    pub record Short (B K : ℕ) (r : Turn CheckState) : Type 0 where
       pub short : B < 2 * entries s
       pub steps : K ≡ B
       pub stop : r.stop ≡ Stop.Budget
 
     -- turns with B steps to spend in all come to the end after 2×n steps, or spend all B and are stopped by the budget
-    abbrev pub Came : ℕ → ℕ → CheckTurn → Type 0
+    abbrev pub Came : ℕ → ℕ → Turn CheckState → Type 0
     Came B K r = Complete B K r ⊎ Short B K r
 
-    pub chain_complete : {B K : ℕ} {r : CheckTurn} → Turns k s fresh B K r
+    pub chain_complete : {B K : ℕ} {r : Turn CheckState} → Turns k s fresh B K r
         → Came B K r
     chain_complete {B} {K} {r} c = go (chain_ends CheckState (accepted (entries s)) (step_of (any_name k) (entries s) e) x.chain (2 * entries s)
         (at (entries s + 1) 0 (entries s)) (accepted_yes (entries s) (at (entries s + 1) 0 (entries s)) refl refl) yields_run)

@@ -3,17 +3,14 @@
 --   told_apart, verdict_apart, answered_apart   equal numbers, equal answers
 --   told_halt, halt_of_law, halt_told_law               the code's stop reason says what stopped the turn
 --   handed_unique, handed_turned                what is handed back for a turn is that turn
-use Rattle.std.specs.Prelude.{ℕ, ◌≡◌, refl}
+use Rattle.std.specs.Prelude.{ℕ, ◌≡◌, refl, Ok, Err}
 use Rattle.std.proofs.Common.{ap, ◌∙◌, sym, arith}
 use Rattle.turns.specs.Turn.{Halt, Turned}
 use Rattle.terms.specs.declared.Stop.{Stop}
-use Rattle.terms.specs.declared.Verdict.{Verdict}
 use Rattle.terms.specs.declared.Refusal.{Refusal}
 use Rattle.checking.specs.declared.CheckState.{CheckState}
-use Rattle.checking.specs.declared.CheckTurn.{CheckTurn}
-use Rattle.terms.specs.declared.Written.{Written}
-use Rattle.terms.specs.Stops.{Told, told, halt_told, verdict_told, Answered, answered}
-use Rattle.checking.specs.Turn.{Handed}
+use Rattle.terms.specs.Stops.{Told, told, halt_told, verdict_told, Answered, answered, Verdict, Written, Handed}
+use Rattle.terms.specs.declared.Turn.{Turn}
 
 -- which of the four reasons
 reason_of : {a b : Told} → a ≡ b → a.reason ≡ b.reason
@@ -83,10 +80,10 @@ halt_told_law g h q =
     sym (halt_stop g) ∙ ap halt_of (told_apart (stop_of g) (stop_of h) (told_stop g ∙ q ∙ sym (told_stop h))) ∙ halt_stop h
 
 -- what the code hands back, as a turn
-abbrev pub turned_of : CheckTurn → Turned CheckState
+abbrev pub turned_of : Turn CheckState → Turned CheckState
 turned_of r = record { state = r.state; steps = r.steps; halt = halt_of r.stop }
 
-pub handed_turned : (r : CheckTurn) (t : Turned CheckState) → Handed r t → turned_of r ≡ t
+pub handed_turned : (r : Turn CheckState) (t : Turned CheckState) → Handed r t → turned_of r ≡ t
 handed_turned r t h =
     let x = h.state in
     let y = h.steps in
@@ -94,20 +91,20 @@ handed_turned r t h =
     λ i. record { state = x i; steps = y i; halt = z i }
 
 pub verdict_apart : (a b : Verdict) → verdict_told a ≡ verdict_told b → a ≡ b
-verdict_apart Verdict.Accepted Verdict.Accepted q = refl
-verdict_apart Verdict.Accepted (Verdict.Refused b) q = let z : ◌≡◌ {A = ℕ} 1 3 = reason_of q in absurd (omega arith)
-verdict_apart (Verdict.Refused a) Verdict.Accepted q = let z : ◌≡◌ {A = ℕ} 3 1 = reason_of q in absurd (omega arith)
-verdict_apart (Verdict.Refused a) (Verdict.Refused b) q = ap (λ (r : Refusal). Verdict.Refused r) (refused_same a b q)
+verdict_apart (Ok tt) (Ok tt) q = refl
+verdict_apart (Ok tt) (Err b) q = let z : ◌≡◌ {A = ℕ} 1 3 = reason_of q in absurd (omega arith)
+verdict_apart (Err a) (Ok tt) q = let z : ◌≡◌ {A = ℕ} 3 1 = reason_of q in absurd (omega arith)
+verdict_apart (Err a) (Err b) q = ap (λ (r : Refusal). Err r) (refused_same a b q)
 
 pub answered_apart : (a b : Written) → answered a ≡ answered b → a ≡ b
-answered_apart (Written.Length l) (Written.Length m) q = ap (λ (x : ℕ). Written.Length x) (ap (λ (t : Answered). t.length) q)
-answered_apart (Written.Length l) (Written.Refused b) q = let z : ◌≡◌ {A = ℕ} 0 1 = ap (λ (t : Answered). t.refused) q in absurd (omega arith)
-answered_apart (Written.Refused a) (Written.Length m) q = let z : ◌≡◌ {A = ℕ} 1 0 = ap (λ (t : Answered). t.refused) q in absurd (omega arith)
-answered_apart (Written.Refused a) (Written.Refused b) q =
-    ap (λ (r : Refusal). Written.Refused r) (refusal_same a b (ap (λ (t : Answered). t.number) q) (ap (λ (t : Answered). t.entry) q))
+answered_apart (Ok l) (Ok m) q = ap (λ (x : ℕ). Ok x) (ap (λ (t : Answered). t.length) q)
+answered_apart (Ok l) (Err b) q = let z : ◌≡◌ {A = ℕ} 0 1 = ap (λ (t : Answered). t.refused) q in absurd (omega arith)
+answered_apart (Err a) (Ok m) q = let z : ◌≡◌ {A = ℕ} 1 0 = ap (λ (t : Answered). t.refused) q in absurd (omega arith)
+answered_apart (Err a) (Err b) q =
+    ap (λ (r : Refusal). Err r) (refusal_same a b (ap (λ (t : Answered). t.number) q) (ap (λ (t : Answered). t.entry) q))
 
 -- two turns handed back for one turn of the rule are equal
-pub handed_unique : (a b : CheckTurn) (t : Turned CheckState) → Handed a t → Handed b t → a ≡ b
+pub handed_unique : (a b : Turn CheckState) (t : Turned CheckState) → Handed a t → Handed b t → a ≡ b
 handed_unique a b t p q =
     let x = p.state ∙ sym q.state in
     let y = p.steps ∙ sym q.steps in

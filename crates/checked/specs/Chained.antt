@@ -14,16 +14,16 @@ use Rattle.turns.specs.Chains.{one, more}
 use Rattle.trees.specs.Signature.{entries_of, width, entries}
 use Rattle.terms.specs.declared.Kind.{Kind}
 use Rattle.checking.specs.declared.CheckState.{CheckState}
-use Rattle.checking.specs.declared.CheckTurn.{CheckTurn}
 use Rattle.terms.specs.Kinds.{any_name, most}
 use Rattle.checking.specs.Rule.{step_of, accepted, Ranges, in_range}
-use Rattle.terms.specs.Stops.{told, halt_told}
-use Rattle.checking.specs.Turn.{Handed, TurnPromise, turn_of, refused_at}
+use Rattle.terms.specs.Stops.{told, halt_told, Handed}
+use Rattle.checking.specs.Turn.{TurnPromise, turn_of, refused_at}
 use Rattle.terms.specs.Length.{length_fault}
 use Rattle.checking.proofs.Cases.{range_yes, range_inverse}
 use Rattle.checking.proofs.Inverse.{step_ranges, step_silent}
 use Rattle.checking.proofs.Runs.{turn_run, turn_length, turn_range}
 use Rattle.checked.specs.Yields.{Turns}
+use Rattle.terms.specs.declared.Turn.{Turn}
 
 module _ (k : Kind) (s : List ℕ) where
   abbrev step : CheckState → Rattle.turns.specs.Turn.Next CheckState
@@ -41,7 +41,7 @@ module _ (k : Kind) (s : List ℕ) where
   pub turn_is : Fits → (b : ℕ) (st : CheckState) → Ranges (entries s) st → turn_of k s b st ≡ turn CheckState done step b st
   turn_is f b st g = turn_run (any_name k) (most k) s b st f (range_yes (entries s) st g)
 
-  pub promise_is : Fits → (b : ℕ) (st : CheckState) (r : CheckTurn) → Ranges (entries s) st → TurnPromise k s b st r
+  pub promise_is : Fits → (b : ℕ) (st : CheckState) (r : Turn CheckState) → Ranges (entries s) st → TurnPromise k s b st r
       → Handed r (turn CheckState done step b st)
   promise_is f b st r g p = subst (Handed r) (turn_is f b st g) p
 
@@ -80,12 +80,12 @@ module _ (k : Kind) (s : List ℕ) where
   -- ---- a chain of turns
 
   -- the turns of the rule that the public turns are
-  pub record Ran (st : CheckState) (B K : ℕ) (r : CheckTurn) : Type 0 where
+  pub record Ran (st : CheckState) (B K : ℕ) (r : Turn CheckState) : Type 0 where
     pub last : Turned CheckState
     pub chain : Chains.Turns CheckState done step st B K last
     pub handed : Handed r last
 
-  pub chain_ran : Fits → {st : CheckState} {B K : ℕ} {r : CheckTurn} → Ranges (entries s) st → Turns k s st B K r → Ran st B K r
+  pub chain_ran : Fits → {st : CheckState} {B K : ℕ} {r : Turn CheckState} → Ranges (entries s) st → Turns k s st B K r → Ran st B K r
   chain_ran f g (one {st = st} {b = b} {r = r} p) =
       let h = promise_is f b st r g p in
       record {
@@ -105,7 +105,7 @@ module _ (k : Kind) (s : List ℕ) where
       }
 
   -- where the length is refused, so is every turn
-  pub chain_length : (Fits → ⊥) → {st : CheckState} {B K : ℕ} {r : CheckTurn} → Turns k s st B K r → told r.stop ≡ halt_told Halt.end → ⊥
+  pub chain_length : (Fits → ⊥) → {st : CheckState} {B K : ℕ} {r : Turn CheckState} → Turns k s st B K r → told r.stop ≡ halt_told Halt.end → ⊥
   chain_length n (one {st = st} {b = b} {r = r} p) e =
       let q = p.stop ∙ ap (λ (t : Turned CheckState). halt_told t.halt) (turn_length (any_name k) (most k) s b st n) in
       let z : ◌≡◌ {A = ℕ} 1 3 = ap (λ (t : Rattle.terms.specs.Stops.Told). t.reason) (sym e ∙ q) in

@@ -8,7 +8,7 @@
 --   Open, Depth, fresh_depth, moves_depth   how many elements are open: with those closed, all but the next entry
 --   refused_early          a check refused at a step has taken fewer than 2×n steps
 --   chain_verdict          and is refused with the same number and entry by the whole check
-use Rattle.std.specs.Prelude.{ℕ, zero, suc, ◌+◌, ◌*◌, ◌≤◌, ◌<◌, ◌≡◌, refl, ◌⊎◌, List, Bool, true, false, length}
+use Rattle.std.specs.Prelude.{ℕ, zero, suc, ◌+◌, ◌*◌, ◌≤◌, ◌<◌, ◌≡◌, refl, ◌⊎◌, List, Bool, true, false, length, Err}
 use Rattle.std.proofs.Common.{ap, ◌∙◌, sym, subst, inl, inr, arith}
 use Rattle.std.proofs.lemmas.Bool.{false≢true}
 use Rattle.trees.specs.Order.{lt_or_ge}
@@ -19,14 +19,12 @@ use Rattle.turns.specs.Chains as Chains
 use Rattle.trees.specs.Signature.{entries_of, width, entries}
 use Rattle.terms.specs.declared.Kind.{Kind}
 use Rattle.checking.specs.declared.CheckState.{CheckState}
-use Rattle.checking.specs.declared.CheckTurn.{CheckTurn}
 use Rattle.terms.specs.declared.Stop.{Stop}
 use Rattle.terms.specs.declared.Refusal.{Refusal}
-use Rattle.terms.specs.declared.Verdict.{Verdict}
 use Rattle.terms.specs.Kinds.{any_name, most}
 use Rattle.checking.specs.Rule.{fresh, step_of, accepted, Ranges}
-use Rattle.terms.specs.Stops.{Told, told, halt_told}
-use Rattle.checking.specs.Turn.{Handed, TurnPromise, turn_of, refused_at}
+use Rattle.terms.specs.Stops.{Told, told, halt_told, Verdict, Handed}
+use Rattle.checking.specs.Turn.{TurnPromise, turn_of, refused_at}
 use Rattle.checking.specs.Whole.{WholePromise}
 use Rattle.checking.proofs.Inverse.{Opens, Closes, step_inverse, step_grows, step_silent}
 use Rattle.checking.proofs.Runs.{moves_grow, moves_ranges}
@@ -35,10 +33,11 @@ use Rattle.checking.proofs.Cases.{accepted_yes, fresh_ranges}
 use Rattle.checked.specs.Yields.{Turns}
 use Rattle.checked.specs.Apart.{handed_unique, verdict_apart, halt_told_law, told_halt}
 use Rattle.checked.specs.Chained.{Fits, Judged, refuses, runs, judged, turn_is, promise_is, steps_kept, chain_ran, run_moves}
+use Rattle.terms.specs.declared.Turn.{Turn}
 
 -- ---- one result
 
-pub one_result : (k : Kind) (s : List ℕ) (b : ℕ) (st : CheckState) (r q : CheckTurn) → TurnPromise k s b st r → TurnPromise k s b st q → r ≡ q
+pub one_result : (k : Kind) (s : List ℕ) (b : ℕ) (st : CheckState) (r q : Turn CheckState) → TurnPromise k s b st r → TurnPromise k s b st q → r ≡ q
 one_result k s b st r q p o = handed_unique r q (turn_of k s b st) p o
 
 pub one_verdict : (k : Kind) (s : List ℕ) (v w : Verdict) → WholePromise k s v → WholePromise k s w → v ≡ w
@@ -53,7 +52,7 @@ module _ (k : Kind) (s : List ℕ) where
 
   -- ---- one turn, on any list from any state
 
-  module _ (b : ℕ) (st : CheckState) (r : CheckTurn) (p : TurnPromise k s b st r) where
+  module _ (b : ℕ) (st : CheckState) (r : Turn CheckState) (p : TurnPromise k s b st r) where
     pub step_as_written : Steps CheckState done step r.steps st r.state
     step_as_written = go (judged k s st)
       where
@@ -79,11 +78,11 @@ module _ (k : Kind) (s : List ℕ) where
 
   -- ---- turns one after the other
 
-  not_spent : (st : CheckState) (number : ℕ) (x : CheckTurn) → Handed x (refused_at st number) → x.stop ≡ Stop.Budget → ⊥
+  not_spent : (st : CheckState) (number : ℕ) (x : Turn CheckState) → Handed x (refused_at st number) → x.stop ≡ Stop.Budget → ⊥
   not_spent st number x h e = let z : ◌≡◌ {A = ℕ} 2 3 = ap (λ (t : Told). t.reason) (sym (ap told e) ∙ h.stop) in omega arith
 
   -- stopped by its budget, a turn of a steps and then one of b are the turn of a + b
-  pub cut_anywhere : (a b : ℕ) (st : CheckState) (x y r : CheckTurn) → TurnPromise k s a st x → x.stop ≡ Stop.Budget
+  pub cut_anywhere : (a b : ℕ) (st : CheckState) (x y r : Turn CheckState) → TurnPromise k s a st x → x.stop ≡ Stop.Budget
       → TurnPromise k s b x.state y → TurnPromise k s (a + b) st r → r ≡ record { state = y.state; steps = a + y.steps; stop = y.stop }
   cut_anywhere a b st x y r p e q o = go (judged k s st)
     where
@@ -102,7 +101,7 @@ module _ (k : Kind) (s : List ℕ) where
           }))
 
   -- stopped by anything else, a larger budget changes nothing
-  pub cut_kept : (a b : ℕ) (st : CheckState) (x r : CheckTurn) → TurnPromise k s a st x → (x.stop ≡ Stop.Budget → ⊥)
+  pub cut_kept : (a b : ℕ) (st : CheckState) (x r : Turn CheckState) → TurnPromise k s a st x → (x.stop ≡ Stop.Budget → ⊥)
       → TurnPromise k s (a + b) st r → r ≡ x
   cut_kept a b st x r p n o = go (judged k s st)
     where
@@ -172,14 +171,14 @@ module _ (k : Kind) (s : List ℕ) where
     pub going : done state ≡ false
     pub fault : step state ≡ refused x.number x.entry.0
 
-  chain_refused : Fits k s → {B K : ℕ} {r : CheckTurn} → Turns k s fresh B K r → (x : Refusal) → r.stop ≡ Stop.Refused x → Refused K x
+  chain_refused : Fits k s → {B K : ℕ} {r : Turn CheckState} → Turns k s fresh B K r → (x : Refusal) → r.stop ≡ Stop.Refused x → Refused K x
   chain_refused f c x e =
       let ran = chain_ran k s f (fresh_ranges (entries s)) c in
       let q = halt_told_law ran.last.halt (Halt.refusal x.number x.entry.0) (sym ran.handed.stop ∙ ap told e) in
       let w = Chains.chain_fault CheckState done step x.number x.entry.0 ran.chain q in
       record { state = ran.last.state; moves = run_moves k s (Chains.chain_steps CheckState done step ran.chain); going = w.0; fault = w.1 }
 
-  pub refused_early : Fits k s → {B K : ℕ} {r : CheckTurn} → Turns k s fresh B K r → (x : Refusal) → r.stop ≡ Stop.Refused x → K < 2 * entries s
+  pub refused_early : Fits k s → {B K : ℕ} {r : Turn CheckState} → Turns k s fresh B K r → (x : Refusal) → r.stop ≡ Stop.Refused x → K < 2 * entries s
   refused_early f {K = K} c x e = go (lt_or_ge K (2 * entries s))
     where
       w : Refused K x
@@ -194,8 +193,8 @@ module _ (k : Kind) (s : List ℕ) where
           absurd (false≢true (sym w.going ∙ a))
 
   -- a check that is refused at a step, however it was cut, is refused so by the whole check
-  pub chain_verdict : Fits k s → {B K : ℕ} {r : CheckTurn} → Turns k s fresh B K r → (x : Refusal) → r.stop ≡ Stop.Refused x
-      → WholePromise k s (Verdict.Refused x)
+  pub chain_verdict : Fits k s → {B K : ℕ} {r : Turn CheckState} → Turns k s fresh B K r → (x : Refusal) → r.stop ≡ Stop.Refused x
+      → WholePromise k s (Err x)
   chain_verdict f {K = K} c x e =
       let w = chain_refused f c x e in
       let l = refused_early f c x e in

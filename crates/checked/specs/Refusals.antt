@@ -23,7 +23,6 @@ use Rattle.turns.specs.Laws.{turn_outcome}
 use Rattle.trees.specs.Signature.{Entries, entries_of, width, entries}
 use Rattle.terms.specs.declared.Kind.{Kind}
 use Rattle.checking.specs.declared.CheckState.{CheckState}
-use Rattle.checking.specs.declared.CheckTurn.{CheckTurn}
 use Rattle.terms.specs.declared.Refusal.{Refusal}
 use Rattle.terms.specs.declared.Stop.{Stop}
 use Rattle.terms.specs.Kinds.{any_name, most}
@@ -38,6 +37,7 @@ use Rattle.checked.specs.Menus.{two_roots}
 use Rattle.checked.specs.Yields.{Turns}
 use Rattle.checked.specs.Chained.{Fits, turn_is}
 use Rattle.checked.specs.Public.{Open, Depth, fresh_depth, moves_depth, chain_verdict}
+use Rattle.terms.specs.declared.Turn.{Turn}
 
 -- ---- one of these numbers
 
@@ -239,7 +239,7 @@ module _ (k : Kind) (s : List ℕ) where
       lacks Kind.Twig = refl
 
   -- 9 is not among them: "a check begun fresh whose state nobody altered" never meets it
-  pub chain_numbers : Fits k s → {B K : ℕ} {r : CheckTurn} → Turns k s fresh B K r → (x : Refusal) → r.stop ≡ Stop.Refused x
+  pub chain_numbers : Fits k s → {B K : ℕ} {r : Turn CheckState} → Turns k s fresh B K r → (x : Refusal) → r.stop ≡ Stop.Refused x
       → OneOf (0 ∷ check_refusals k) x.number
   chain_numbers f c x e = subst (OneOf (0 ∷ check_refusals k)) (sym (ap (λ (t : Told). t.number) (chain_verdict k s f c x e))) whole_numbers
 
@@ -249,5 +249,5 @@ roots_fit : Fits Kind.Data two_roots
 unfolding length_fault
 roots_fit = refl
 
-pub roots_numbers : {B K : ℕ} {r : CheckTurn} → Turns Kind.Data two_roots fresh B K r → (x : Refusal) → r.stop ≡ Stop.Refused x → x.number ≡ 9 → ⊥
+pub roots_numbers : {B K : ℕ} {r : Turn CheckState} → Turns Kind.Data two_roots fresh B K r → (x : Refusal) → r.stop ≡ Stop.Refused x → x.number ≡ 9 → ⊥
 roots_numbers c x e = one_not (0 ∷ check_refusals Kind.Data) x.number 9 (chain_numbers Kind.Data two_roots roots_fit c x e) refl

@@ -5,7 +5,7 @@
 --   ours_two, ours_turns, ours_three   whatever keeps our promises meets them
 --   shut_out_…               refusing everything, accepting everything, a turn that does nothing, all the work in the first turn,
 --                            an invented step count
-use Rattle.std.specs.Prelude.{ℕ, zero, suc, ◌≡◌, refl, ◌⊎◌, Bool, true, false, ◌&&◌, List, [], ◌∷◌, ltb}
+use Rattle.std.specs.Prelude.{ℕ, zero, suc, ◌≡◌, refl, ◌⊎◌, Bool, true, false, ◌&&◌, List, [], ◌∷◌, ltb, Ok, Err}
 use Rattle.std.proofs.Common.{ap, ◌∙◌, sym, subst, inl, inr, arith, ltb-true}
 use Rattle.std.proofs.lemmas.Bool.{false≢true}
 use Rattle.turns.specs.Turn.{Halt, Turned, run, turn}
@@ -15,10 +15,8 @@ use Rattle.trees.specs.Tree.{none}
 use Rattle.trees.specs.Signature.{cell, entries_of, width, entries}
 use Rattle.terms.specs.declared.Kind.{Kind}
 use Rattle.checking.specs.declared.CheckState.{CheckState}
-use Rattle.checking.specs.declared.CheckTurn.{CheckTurn}
 use Rattle.terms.specs.declared.Stop.{Stop}
 use Rattle.terms.specs.declared.Refusal.{Refusal}
-use Rattle.terms.specs.declared.Verdict.{Verdict}
 use Rattle.terms.specs.Kinds.{any_name}
 use Rattle.checking.specs.Rule.{at, fresh, step_of, close_of, accepted, nameless, second_root, in_range, Ranges}
 use Rattle.checking.specs.Turn.{TurnPromise, turn_of, turn_within}
@@ -30,23 +28,25 @@ use Rattle.checked.specs.Yields.{Words, Yields, Exactly, Ended, Turns}
 use Rattle.checked.specs.Apart.{stop_of, turned_of, handed_turned}
 use Rattle.checked.specs.Chained.{Fits, promise_is}
 use Rattle.checked.specs.Wholly.{handed, handed_is, accepted_exactly, whole_exactly, never_refused}
+use Rattle.terms.specs.declared.Turn.{Turn}
+use Rattle.terms.specs.Stops.{Verdict}
 
 -- ---- the demands
 
 -- demand 2: "A signature is accepted exactly if a data tree yields it."
 abbrev pub DemandTwo : Kind → (List ℕ → Verdict) → Type 0
-DemandTwo k check = (s : List ℕ) → Words s → Exactly k s (check s ≡ Verdict.Accepted)
+DemandTwo k check = (s : List ℕ) → Words s → Exactly k s (check s ≡ Ok tt)
 
 -- turns of a call from the fresh state, each given the state before
-abbrev pub Called : (ℕ → CheckState → CheckTurn) → ℕ → ℕ → CheckTurn → Type 0
-Called call B K r = Chain CheckState CheckTurn (λ b st t. t ≡ call b st) (λ t. t.state) (λ t. t.steps) fresh B K r
+abbrev pub Called : (ℕ → CheckState → Turn CheckState) → ℕ → ℕ → Turn CheckState → Type 0
+Called call B K r = Chain CheckState (Turn CheckState) (λ b st t. t ≡ call b st) (λ t. t.state) (λ t. t.steps) fresh B K r
 
 -- demand 2 of turns: the end is reported only if a tree yields the list, and with 2×n steps to spend in all it is if one does
-abbrev pub TurnsTwo : Kind → (List ℕ → ℕ → CheckState → CheckTurn) → Type 0
-TurnsTwo k call = (s : List ℕ) → Words s → (B K : ℕ) (r : CheckTurn) → Called (call s) B K r → Ended k s B (r.stop ≡ Stop.End)
+abbrev pub TurnsTwo : Kind → (List ℕ → ℕ → CheckState → Turn CheckState) → Type 0
+TurnsTwo k call = (s : List ℕ) → Words s → (B K : ℕ) (r : Turn CheckState) → Called (call s) B K r → Ended k s B (r.stop ≡ Stop.End)
 
 -- demand 3: on every list whose length is not refused, each turn is a turn of the written rule
-abbrev pub DemandThree : Kind → (List ℕ → ℕ → CheckState → CheckTurn) → Type 0
+abbrev pub DemandThree : Kind → (List ℕ → ℕ → CheckState → Turn CheckState) → Type 0
 DemandThree k call =
     (s : List ℕ) → Fits k s
     → Faithful CheckState (accepted (entries s)) (step_of (any_name k) (entries s) (entries_of width s)) (Ranges (entries s))
@@ -57,17 +57,17 @@ DemandThree k call =
 pub ours_two : (k : Kind) (check : List ℕ → Verdict) → ((s : List ℕ) → WholePromise k s (check s)) → DemandTwo k check
 ours_two k check p s w = whole_exactly k s w (check s) (p s)
 
-promised : (k : Kind) (s : List ℕ) (call : ℕ → CheckState → CheckTurn) → ((b : ℕ) (st : CheckState) → TurnPromise k s b st (call b st))
-    → {st : CheckState} {B K : ℕ} {r : CheckTurn}
-    → Chain CheckState CheckTurn (λ b from t. t ≡ call b from) (λ t. t.state) (λ t. t.steps) st B K r → Turns k s st B K r
+promised : (k : Kind) (s : List ℕ) (call : ℕ → CheckState → Turn CheckState) → ((b : ℕ) (st : CheckState) → TurnPromise k s b st (call b st))
+    → {st : CheckState} {B K : ℕ} {r : Turn CheckState}
+    → Chain CheckState (Turn CheckState) (λ b from t. t ≡ call b from) (λ t. t.state) (λ t. t.steps) st B K r → Turns k s st B K r
 promised k s call p (one {st = st} {b = b} e) = one (subst (TurnPromise k s b st) (sym e) (p b st))
 promised k s call p (more {st = st} {b = b} e c) = more (subst (TurnPromise k s b st) (sym e) (p b st)) (promised k s call p c)
 
-pub ours_turns : (k : Kind) (call : List ℕ → ℕ → CheckState → CheckTurn)
+pub ours_turns : (k : Kind) (call : List ℕ → ℕ → CheckState → Turn CheckState)
     → ((s : List ℕ) (b : ℕ) (st : CheckState) → TurnPromise k s b st (call s b st)) → TurnsTwo k call
 ours_turns k call p s w B K r c = accepted_exactly k s w (promised k s (call s) (p s) c)
 
-pub ours_three : (k : Kind) (call : List ℕ → ℕ → CheckState → CheckTurn)
+pub ours_three : (k : Kind) (call : List ℕ → ℕ → CheckState → Turn CheckState)
     → ((s : List ℕ) (b : ℕ) (st : CheckState) → TurnPromise k s b st (call s b st)) → DemandThree k call
 ours_three k call p s f =
     ours_faithful CheckState _ _ (Ranges (entries s)) (λ b st. turned_of (call s b st))
@@ -140,23 +140,23 @@ single_two = refl
 -- ---- shut out by demand 2
 
 -- refusing everything
-pub shut_out_refusing : (x : List ℕ → Refusal) → DemandTwo Kind.Data (λ s. Verdict.Refused (x s)) → ⊥
+pub shut_out_refusing : (x : List ℕ → Refusal) → DemandTwo Kind.Data (λ s. Err (x s)) → ⊥
 shut_out_refusing x d =
     let q = (d single single_words).complete single_yields in let z : ◌≡◌ {A = ℕ} 0 1 = cc in omega arith
 
 -- accepting everything, the one fixed answer that is left
-pub shut_out_accepting : DemandTwo Kind.Data (λ s. Verdict.Accepted) → ⊥
+pub shut_out_accepting : DemandTwo Kind.Data (λ s. (Ok tt)) → ⊥
 shut_out_accepting d = two_none ((d two_roots two_words).sound refl)
 
 -- turns that refuse everything, each time as they like
-pub shut_out_turns_refusing : (call : List ℕ → ℕ → CheckState → CheckTurn) (x : List ℕ → ℕ → CheckState → Refusal)
+pub shut_out_turns_refusing : (call : List ℕ → ℕ → CheckState → Turn CheckState) (x : List ℕ → ℕ → CheckState → Refusal)
     → ((s : List ℕ) (b : ℕ) (st : CheckState) → (call s b st).stop ≡ Stop.Refused (x s b st)) → TurnsTwo Kind.Data call → ⊥
 shut_out_turns_refusing call x refuses d =
     let e = (d single single_words 2 _ (call single 2 fresh) (one refl)).complete (omega arith) single_yields in
     let q = sym (refuses single 2 fresh) ∙ e in let z : ◌≡◌ {A = ℕ} 0 1 = cc in omega arith
 
 -- turns with one fixed stop reason, whatever else they hand back
-pub shut_out_fixed : (call : List ℕ → ℕ → CheckState → CheckTurn) (x : Stop) → ((s : List ℕ) (b : ℕ) (st : CheckState) → (call s b st).stop ≡ x)
+pub shut_out_fixed : (call : List ℕ → ℕ → CheckState → Turn CheckState) (x : Stop) → ((s : List ℕ) (b : ℕ) (st : CheckState) → (call s b st).stop ≡ x)
     → TurnsTwo Kind.Data call → ⊥
 shut_out_fixed call x fixed d =
     let e = (d single single_words 2 _ (call single 2 fresh) (one refl)).complete (omega arith) single_yields in
@@ -165,19 +165,19 @@ shut_out_fixed call x fixed d =
 -- ---- shut out by demand 3
 
 -- a turn that does nothing: one paid step leaves the fresh state as it is, whatever the turn says
-pub shut_out_idle : (call : List ℕ → ℕ → CheckState → CheckTurn) → (call single 1 fresh).state ≡ fresh → DemandThree Kind.Data call → ⊥
+pub shut_out_idle : (call : List ℕ → ℕ → CheckState → Turn CheckState) → (call single 1 fresh).state ≡ fresh → DemandThree Kind.Data call → ⊥
 shut_out_idle call idle d =
     shut_out_state CheckState _ _ (Ranges (entries single)) (λ b st. turned_of (call single b st)) (d single single_fits) 1 fresh (fresh_ranges 1)
     (λ e. let q : ◌≡◌ {A = ℕ} 1 2 = ap (λ (t : CheckState). t.next.0) (sym idle ∙ e ∙ ap (λ (t : Turned CheckState). t.state) single_one) in omega arith)
 
 -- all the work in the first turn, which may spend one step, whatever it says
-pub shut_out_at_once : (call : List ℕ → ℕ → CheckState → CheckTurn) → (call single 1 fresh).state ≡ at 2 0 1 → DemandThree Kind.Data call → ⊥
+pub shut_out_at_once : (call : List ℕ → ℕ → CheckState → Turn CheckState) → (call single 1 fresh).state ≡ at 2 0 1 → DemandThree Kind.Data call → ⊥
 shut_out_at_once call once d =
     shut_out_state CheckState _ _ (Ranges (entries single)) (λ b st. turned_of (call single b st)) (d single single_fits) 1 fresh (fresh_ranges 1)
     (λ e. let q : ◌≡◌ {A = ℕ} 0 1 = ap (λ (t : CheckState). t.top.0) (sym once ∙ e ∙ ap (λ (t : Turned CheckState). t.state) single_one) in omega arith)
 
 -- an invented step count: another one than that of the turn of the rule, with any budget
-pub shut_out_invented : (call : List ℕ → ℕ → CheckState → CheckTurn) (b : ℕ) → ((call single b fresh).steps ≡ (on_single b).steps → ⊥)
+pub shut_out_invented : (call : List ℕ → ℕ → CheckState → Turn CheckState) (b : ℕ) → ((call single b fresh).steps ≡ (on_single b).steps → ⊥)
     → DemandThree Kind.Data call → ⊥
 shut_out_invented call b n d =
     shut_out_count CheckState _ _ (Ranges (entries single)) (λ b st. turned_of (call single b st)) (d single single_fits) b fresh (fresh_ranges 1) n

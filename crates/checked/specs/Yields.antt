@@ -10,9 +10,9 @@ use Rattle.trees.specs.Tree.{Tree, Grown}
 use Rattle.trees.specs.Signature.{signature, entries}
 use Rattle.terms.specs.declared.Kind.{Kind}
 use Rattle.checking.specs.declared.CheckState.{CheckState}
-use Rattle.checking.specs.declared.CheckTurn.{CheckTurn}
 use Rattle.terms.specs.Kinds.{any_name, most}
 use Rattle.checking.specs.Turn.{TurnPromise}
+use Rattle.terms.specs.declared.Turn.{Turn}
 
 -- "sixteen-bit numbers"
 abbrev pub Words : List ℕ → Type 0
@@ -35,5 +35,5 @@ pub record Ended (k : Kind) (s : List ℕ) (B : ℕ) (Said : Type 0) : Type 0 wh
   pub complete : 2 * entries s ≤ B → Yields k s → Said
 
 -- any chain of public turns, with any budgets, each given the state that the one before handed back
-abbrev pub Turns : Kind → List ℕ → CheckState → ℕ → ℕ → CheckTurn → Type 0
-Turns k s st B K r = Chain CheckState CheckTurn (λ b from t. TurnPromise k s b from t) (λ t. t.state) (λ t. t.steps) st B K r
+abbrev pub Turns : Kind → List ℕ → CheckState → ℕ → ℕ → Turn CheckState → Type 0
+Turns k s st B K r = Chain CheckState (Turn CheckState) (λ b from t. TurnPromise k s b from t) (λ t. t.state) (λ t. t.steps) st B K r

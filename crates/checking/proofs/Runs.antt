@@ -2,6 +2,7 @@
 --   moves_ranges, moves_grow    steps keep the ranges, and each makes next + closed one more
 --   turn_…                      which case of a turn holds under which facts
 --   whole_stops                 the whole check ends or refuses
+use Rattle.std.specs.Prelude.{Ok}
 use Prim.Native.Nat.{ℕ, ◌+◌, ◌*◌, ◌/◌, ◌≤◌, ◌<◌}
 use mathlib.Core.Path.{◌≡◌, refl, ap, sym}
 use mathlib.Core.Logic.{◌⊎◌, inl, inr}
@@ -22,7 +23,6 @@ use Rattle.terms.specs.Length.{length_fault}
 use Rattle.checking.specs.Whole.{whole_of}
 use Rattle.terms.specs.declared.Kind.{Kind}
 use Rattle.terms.specs.declared.Stop.{Stop}
-use Rattle.terms.specs.declared.Verdict.{Verdict}
 use Rattle.terms.specs.declared.Refusal.{Refusal}
 use Rattle.terms.specs.Kinds.{most}
 use Rattle.terms.specs.Stops.{Told, told, halt_told, verdict_told}
@@ -93,7 +93,7 @@ whole_stops any most s = go (ℕ_discrete (length_fault most width (length s)) 0
 
 -- a stop reason that is no refusal, of the whole check, is the end
 pub stop_accepted : (x : Stop) (h : Halt) → told x ≡ halt_told h → (h ≡ Halt.end) ⊎ ((number : ℕ) × (entry : ℕ) × (h ≡ Halt.refusal number entry))
-    → ((r : Refusal) → x ≡ Stop.Refused r → ⊥) → verdict_told Verdict.Accepted ≡ halt_told h
+    → ((r : Refusal) → x ≡ Stop.Refused r → ⊥) → verdict_told (Ok tt) ≡ halt_told h
 stop_accepted x h q (inl e) n = rw e
 stop_accepted Stop.Answer h q (inr e) n = let w = rw e.2 at q in let z : ◌≡◌ {A = ℕ} 0 3 = ap (λ (t : Told). t.reason) w in absurd (omega arith)
 stop_accepted Stop.End h q (inr e) n = let w = rw e.2 at q in let z : ◌≡◌ {A = ℕ} 1 3 = ap (λ (t : Told). t.reason) w in absurd (omega arith)

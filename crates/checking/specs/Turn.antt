@@ -7,12 +7,12 @@ use Rattle.turns.specs.Pick.{pick}
 use Rattle.turns.specs.Turn.{Turned, Halt, turn}
 use Rattle.trees.specs.Signature.{Entries, entries_of, width}
 use Rattle.checking.specs.declared.CheckState.{CheckState}
-use Rattle.checking.specs.declared.CheckTurn.{CheckTurn}
 use Rattle.terms.specs.declared.Kind.{Kind}
 use Rattle.terms.specs.Kinds.{any_name, most}
 use Rattle.terms.specs.Length.{length_fault}
 use Rattle.checking.specs.Rule.{step_of, accepted, in_range}
-use Rattle.terms.specs.Stops.{told, halt_told}
+use Rattle.terms.specs.Stops.{Handed}
+use Rattle.terms.specs.declared.Turn.{Turn}
 
 -- at most b steps of the rule
 abbrev pub run_of : Bool → ℕ → Entries → ℕ → CheckState → Turned CheckState
@@ -33,12 +33,6 @@ turn_within any most s b st =
 abbrev pub turn_of : Kind → List ℕ → ℕ → CheckState → Turned CheckState
 turn_of k s b st = turn_within (any_name k) (most k) s b st
 
--- what the code hands back is this turn
-pub record Handed (r : CheckTurn) (t : Turned CheckState) : Type 0 where
-  pub state : r.state ≡ t.state
-  pub steps : r.steps ≡ t.steps
-  pub stop : told r.stop ≡ halt_told t.halt
-
 -- the promise of a turn of the check
-abbrev pub TurnPromise : Kind → List ℕ → ℕ → CheckState → CheckTurn → Type 0
+abbrev pub TurnPromise : Kind → List ℕ → ℕ → CheckState → Turn CheckState → Type 0
 TurnPromise k s b st r = Handed r (turn_of k s b st)

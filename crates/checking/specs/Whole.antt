@@ -3,11 +3,10 @@
 --   WholePromise k s v   v says what the whole check says
 use Rattle.std.specs.Prelude.{ℕ, ◌+◌, ◌*◌, ◌≡◌, List}
 use Rattle.terms.specs.declared.Kind.{Kind}
-use Rattle.terms.specs.declared.Verdict.{Verdict}
 use Rattle.terms.specs.Kinds.{most}
 use Rattle.checking.specs.Rule.{fresh}
 use Rattle.checking.specs.Turn.{turn_of}
-use Rattle.terms.specs.Stops.{Told, halt_told, verdict_told}
+use Rattle.terms.specs.Stops.{Told, halt_told, verdict_told, Verdict}
 
 -- the stop of a turn from the fresh state that its budget never stops
 abbrev pub whole_of : Kind → List ℕ → Told

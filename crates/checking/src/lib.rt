@@ -11,7 +11,7 @@ ghost use Rattle.checking.specs.Plain.{told_as, Reaches};
 mod steps;
 
 use steps::{ENDED, REFUSED, Reached, SPENT, halted, run};
-use terms::{BAD_STATE, Kind, PostRank, PreRank, Refusal, Stop, Verdict, length_fault};
+use terms::{Fault, Kind, PostRank, PreRank, Refusal, Stop, Turn, length_fault};
 
 // The saved state of a check: the next entry, the innermost open element, and the last rank given as elements close.
 #[derive(Clone, Copy)]
@@ -19,14 +19,6 @@ pub struct CheckState {
     pub next: PreRank,
     pub top: PreRank,
     pub closed: PostRank,
-}
-
-// What a turn of the check hands back.
-#[derive(Clone, Copy)]
-pub struct CheckTurn {
-    pub state: CheckState,
-    pub steps: u64,
-    pub stop: Stop,
 }
 
 // A turn in plain numbers: refused by the signature's length, refused by a state outside its ranges, or run. Its start costs the same for every size.
@@ -42,7 +34,7 @@ fn reach(kind: Kind, sig: &[u16], budget: u64, next: u16, top: u16, closed: u16)
     if (1 <= next) & (next <= n + 1) & (top < next) & (closed < next) {
         run(sig, n, any_name, budget, next, top, closed)
     } else {
-        halted(next, top, closed, 0, REFUSED, BAD_STATE, 0)
+        halted(next, top, closed, 0, REFUSED, Fault::BadState, 0)
     }
 }
 
@@ -75,12 +67,12 @@ impl CheckState {
     }
 
     // A turn of the check that may spend budget steps.
-    pub fn turn(self, kind: Kind, sig: &[u16], budget: u64) -> CheckTurn
+    pub fn turn(self, kind: Kind, sig: &[u16], budget: u64) -> Turn<CheckState>
         ensures { TurnPromise kind sig.now budget self result }
     {
         let reached = reach(kind, sig, budget, self.next.0, self.top.0, self.closed.0);
         let stop = stop_of(reached.reason, reached.number, reached.entry);
-        CheckTurn {
+        Turn {
             state: CheckState {
                 next: PreRank(reached.next),
                 top: PreRank(reached.top),
@@ -103,12 +95,12 @@ fn whole_stop(kind: Kind, sig: &[u16]) -> Stop
 }
 
 // The whole check: what is not refused is accepted.
-pub fn check_whole(kind: Kind, sig: &[u16]) -> Verdict
+pub fn check_whole(kind: Kind, sig: &[u16]) -> Result<(), Refusal>
     ensures { WholePromise kind sig.now result }
 {
     let stop = whole_stop(kind, sig);
     let Stop::Refused(refusal) = stop else {
-        return Verdict::Accepted;
+        return Ok(());
     };
-    Verdict::Refused(refusal)
+    Err(refusal)
 }

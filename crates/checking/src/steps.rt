@@ -5,7 +5,7 @@ ghost use Rattle.checking.specs.Rule.{Ranges, at, close_of, step_of};
 ghost use Rattle.checking.specs.Turn.{run_of};
 ghost use Rattle.checking.specs.Plain.{number_of, entry_fault, opened, close_entry, rest_of, halted_at, Reaches};
 
-use terms::{BAD_STATE, NAMELESS, NOT_OPEN, WRONG_FF, WRONG_POST};
+use terms::{Fault, Turn};
 
 // What stopped a turn, by the numbers that the promises give to the stop reasons.
 pub const ENDED: u16 = 1;
@@ -44,11 +44,11 @@ fn entry_fault(sig: &[u16], n: u16, any_name: bool, i: u16) -> u16
         return 0;
     }
     if !any_name & (number(sig, 4, i, 0) == 0) {
-        return NAMELESS;
+        return Fault::Nameless;
     }
     let fa = number(sig, 4, i, 3);
     if (i <= fa) | ((1 < i) & (fa == 0)) {
-        NOT_OPEN
+        Fault::NotOpen
     } else {
         0
     }
@@ -71,21 +71,21 @@ fn close_fault(sig: &[u16], i: u16, top: u16, closed: u16) -> u16
     ensures { result ≡ number_of (close_of (entries_of width sig.now) (at i top closed)) }
 {
     if top == 0 {
-        return NOT_OPEN;
+        return Fault::NotOpen;
     }
     if closed == i - 1 {
-        return BAD_STATE;
+        return Fault::BadState;
     }
     let post = number(sig, 4, top, 1);
     if post != closed + 1 {
-        return WRONG_POST;
+        return Fault::WrongPost;
     }
     let ff = number(sig, 4, top, 2);
     if ff != i {
-        return WRONG_FF;
+        return Fault::WrongFf;
     }
     let up = number(sig, 4, top, 3);
-    if up < top { 0 } else { NOT_OPEN }
+    if up < top { 0 } else { Fault::NotOpen }
 }
 
 // The entry that a refused close names: the next one where nothing is open, none by the 9, else the one that would be closed.

@@ -2,7 +2,7 @@
 #![tactic(auto)]
 
 ghost use Rattle.std.specs.Prelude.{◌≡◌, get_or};
-ghost use Rattle.trees.specs.Signature.{cell, width};
+ghost use Rattle.trees.specs.Signature.{cell, entries_of, width};
 
 use terms::PreRank;
 
@@ -23,4 +23,25 @@ pub fn entry_number(sig: &[u16], i: PreRank, k: u16) -> u16
     } else {
         number_or_zero(sig, 4 * (rank - 1) + (k as usize))
     }
+}
+
+// The name of entry i.
+pub fn name(sig: &[u16], i: u16) -> u16
+    ensures { result ≡ (entries_of width sig.now).name i }
+{
+    entry_number(sig, PreRank(i), 0)
+}
+
+// The first rank after entry i that is not below it, or n+1: its ff.
+pub fn first_past(sig: &[u16], i: u16) -> u16
+    ensures { result ≡ (entries_of width sig.now).ff i }
+{
+    entry_number(sig, PreRank(i), 2)
+}
+
+// The parent of entry i, or 0: its fa.
+pub fn parent(sig: &[u16], i: u16) -> u16
+    ensures { result ≡ (entries_of width sig.now).fa i }
+{
+    entry_number(sig, PreRank(i), 3)
 }

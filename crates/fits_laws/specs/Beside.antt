@@ -2,14 +2,13 @@
 --   Mapped         a map of document 01 from the twig's elements to those of the data tree
 --   fits_maps      yes exactly if such a map exists
 --   fits_agrees    yes exactly if the ordered call gives an answer above zeros, no exactly if it gives none
-use Rattle.std.specs.Prelude.{ℕ, ◌≤◌, ◌≡◌, refl, ◌↔◌, List, length, replicate}
+use Rattle.std.specs.Prelude.{ℕ, ◌≤◌, ◌≡◌, refl, ◌↔◌, List, length, replicate, Ok}
 use Rattle.std.proofs.Common.{ap, sym, ◌∙◌, arith}
 use Rattle.trees.specs.Signature.{entries_of, width, entries}
 use Rattle.walks.specs.Maps.{Lists}
 use Rattle.terms.specs.declared.Kind.{Kind}
 use Rattle.terms.specs.declared.Stop.{Stop}
-use Rattle.terms.specs.declared.Written.{Written}
-use Rattle.terms.specs.Stops.{Answered, answered, worked}
+use Rattle.terms.specs.Stops.{Answered, answered, worked, Written}
 use Rattle.checked.specs.Apart.{answered_apart}
 use Rattle.checked.specs.Wholly.{accepted_tree}
 use Rattle.twig_turns.specs.Grounds.{Accepted, accepted_grounds}
@@ -71,26 +70,26 @@ module _ (s tw : List ℕ) (accepted : Accepted s tw) (room : List ℕ) (long : 
 
   module _ (lent : List ℕ) (enough : m ≤ length lent) (a : Written) (left : List ℕ) (p : OrderedPromise s tw (replicate m 0) lent a left) where
     -- the ordered call, beginning with zeros
-    first_answer_law : (Fits s tw → a ≡ Written.Length m) × (FitsNot s tw → a ≡ Written.Length 0)
+    first_answer_law : (Fits s tw → a ≡ Ok m) × (FitsNot s tw → a ≡ Ok 0)
     first_answer_law = by (answered a) left refl (ordered.ordered_exactly s tw (replicate m 0) lent a left p accepted.twig accepted.data_tree (zeros_fit n m))
       where
         by : (z : Answered) (after : List ℕ) → answered a ≡ z → ordered.Meant s tw (replicate m 0) lent z after
-            → (Fits s tw → a ≡ Written.Length m) × (FitsNot s tw → a ≡ Written.Length 0)
+            → (Fits s tw → a ≡ Ok m) × (FitsNot s tw → a ≡ Ok 0)
         by z after e (ordered.none h) = (
           λ f. absurd (h f.0 (record { answer = f.1; greater = above_zeros n (entries_of width s) m (entries_of width tw) (accepted_grounds s tw accepted).twig.some f.0 f.1 })),
-          λ f. answered_apart a (Written.Length 0) e,
+          λ f. answered_apart a (Ok 0) e,
         )
         by z after e (ordered.least {xs = xs} h l) = (
-          λ f. answered_apart a (Written.Length m) (e ∙ ap worked h.above.answer.nodes),
+          λ f. answered_apart a (Ok m) (e ∙ ap worked h.above.answer.nodes),
           λ f. absurd (f xs h.above.answer),
         )
         by z after e (ordered.short {xs = xs} h l) = absurd (omega (arith, l, enough, h.above.answer.nodes))
 
     pub record FitsAgrees : Type 0 where
-      pub yes_gives : r.turn.stop ≡ Stop.Answer → a ≡ Written.Length m
-      pub no_gives : r.turn.stop ≡ Stop.End → a ≡ Written.Length 0
-      pub gives_yes : room_for s tw ≤ B → a ≡ Written.Length m → r.turn.stop ≡ Stop.Answer
-      pub gives_no : room_for s tw ≤ B → a ≡ Written.Length 0 → r.turn.stop ≡ Stop.End
+      pub yes_gives : r.turn.stop ≡ Stop.Answer → a ≡ Ok m
+      pub no_gives : r.turn.stop ≡ Stop.End → a ≡ Ok 0
+      pub gives_yes : room_for s tw ≤ B → a ≡ Ok m → r.turn.stop ≡ Stop.Answer
+      pub gives_no : room_for s tw ≤ B → a ≡ Ok 0 → r.turn.stop ≡ Stop.End
 
     pub fits_agrees : FitsAgrees
     fits_agrees = record {
@@ -101,15 +100,15 @@ module _ (s tw : List ℕ) (accepted : Accepted s tw) (room : List ℕ) (long : 
     }
       where
         -- an answer has a node
-        some : Written.Length m ≡ Written.Length 0 → ⊥
+        some : Ok m ≡ Ok 0 → ⊥
         some q = let z : entries tw ≡ 0 = cc in omega (arith, z, (accepted_grounds s tw accepted).twig.some)
 
-        by_yes : room_for s tw ≤ B → a ≡ Written.Length m → Came s tw B K r → r.turn.stop ≡ Stop.Answer
+        by_yes : room_for s tw ≤ B → a ≡ Ok m → Came s tw B K r → r.turn.stop ≡ Stop.Answer
         by_yes b e (yes o) = o.stop
         by_yes b e (no o) = absurd (some (sym e ∙ first_answer_law.1 o.none))
         by_yes b e (asks o) = absurd (omega (arith, o.fewer))
 
-        by_no : room_for s tw ≤ B → a ≡ Written.Length 0 → Came s tw B K r → r.turn.stop ≡ Stop.End
+        by_no : room_for s tw ≤ B → a ≡ Ok 0 → Came s tw B K r → r.turn.stop ≡ Stop.End
         by_no b e (yes o) = absurd (some (sym (first_answer_law.0 (o.latest.ranks, o.latest.answer)) ∙ e))
         by_no b e (no o) = o.stop
         by_no b e (asks o) = absurd (omega (arith, o.fewer))

@@ -13,10 +13,10 @@ use Rattle.trees.specs.Signature.{entries_of, width, entries}
 use Rattle.fits_rows.specs.Fitting.{Fitting, told}
 use Rattle.fits_rows.specs.FittingLaws.{Ranged, ranged_facts, left_of, steps_within}
 use Rattle.fits.specs.declared.Fit.{Fit}
-use Rattle.fits.specs.declared.FitTurn.{FitTurn}
 use Rattle.fits.specs.FitTurn.{fitting, fit_run, fit_fits, FitHanded, FitPromise}
 use Rattle.fits_laws.specs.Questions.{FitLent, FitBack, lend, reading, Keeps, FitTurns}
 use Rattle.fits_laws.specs.Public.{handed_turned, step, Good, run_is, kept, step_as_written}
+use Rattle.terms.specs.declared.Turn.{Turn}
 
 module _ (s tw : List ℕ) where
   -- the turns of the rule that a chain of public turns is
@@ -65,15 +65,15 @@ module _ (s tw : List ℕ) where
   -- ---- a room that is altered between turns
 
   -- a turn over some room, which it leaves as it may
-  abbrev pub OverSome : ℕ → Fit → FitTurn → Type 0
+  abbrev pub OverSome : ℕ → Fit → Turn Fit → Type 0
   OverSome b st r = (room : List ℕ) × (left : List ℕ) × FitPromise s tw room b st r left
 
   -- turns each given the state that the one before handed back, over whatever room
-  abbrev pub Altered : Fit → ℕ → ℕ → FitTurn → Type 0
-  Altered st B K r = Chain Fit FitTurn OverSome (λ t. t.state) (λ t. t.steps) st B K r
+  abbrev pub Altered : Fit → ℕ → ℕ → Turn Fit → Type 0
+  Altered st B K r = Chain Fit (Turn Fit) OverSome (λ t. t.state) (λ t. t.steps) st B K r
 
   -- how many numbers are left does not depend on what the room holds
-  one_within : (b : ℕ) (st : Fit) (r : FitTurn) → OverSome b st r → Ranged (entries s) (entries tw) (fitting st [])
+  one_within : (b : ℕ) (st : Fit) (r : Turn Fit) → OverSome b st r → Ranged (entries s) (entries tw) (fitting st [])
       → Ranged (entries s) (entries tw) (fitting r.state []) × (left_of (entries s) (fitting r.state []) + r.steps ≡ left_of (entries s) (fitting st []))
   one_within b st r (room, left, p) g =
       let x = steps_within (entries s) (entries_of width s) (entries tw) (entries_of width tw) (step_as_written s tw room b st r left p) (bare room g) in
@@ -85,11 +85,11 @@ module _ (s tw : List ℕ) where
       bare_back : (l : List ℕ) → Ranged (entries s) (entries tw) (fitting r.state l) → Ranged (entries s) (entries tw) (fitting r.state [])
       bare_back l q = record { node_low = q.node_low; node_high = q.node_high; entry_low = q.entry_low; entry_high = q.entry_high; stage_fits_law = q.stage_fits_law }
 
-  altered_left : {st : Fit} {B K : ℕ} {r : FitTurn} → Altered st B K r → Ranged (entries s) (entries tw) (fitting st [])
+  altered_left : {st : Fit} {B K : ℕ} {r : Turn Fit} → Altered st B K r → Ranged (entries s) (entries tw) (fitting st [])
       → left_of (entries s) (fitting r.state []) + K ≡ left_of (entries s) (fitting st [])
   altered_left (one {st = st} {b = b} {r = r} p) g = (one_within b st r p g).1
   altered_left (more {st = st} {b = b} {r = r} p c) g = let x = one_within b st r p g in omega (arith, x.1, altered_left c x.0)
 
   -- "each step lowers (q−1)×n + t by one", on any signature and any rooms
-  pub altered_within : {st : Fit} {B K : ℕ} {r : FitTurn} → Altered st B K r → fit_fits s tw (fitting st []) ≡ true → K ≤ left_of (entries s) (fitting st [])
+  pub altered_within : {st : Fit} {B K : ℕ} {r : Turn Fit} → Altered st B K r → fit_fits s tw (fitting st []) ≡ true → K ≤ left_of (entries s) (fitting st [])
   altered_within {st} c f = omega (arith, altered_left c (ranged_facts (entries s) (entries tw) (fitting st []) f))

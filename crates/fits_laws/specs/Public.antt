@@ -26,10 +26,10 @@ use Rattle.fits_rows.specs.declared.Stage.{Stage}
 use Rattle.fits_rows.specs.Fitting.{Fitting, told_by, told, fit_step}
 use Rattle.fits_rows.specs.FittingLaws.{Ranged, ranged_facts, ranged_yes, left_of, step_within, silent, steps_within}
 use Rattle.fits.specs.declared.Fit.{Fit}
-use Rattle.fits.specs.declared.FitTurn.{FitTurn}
 use Rattle.fits.specs.Stages.{stage_number, end_at, fit_halt}
 use Rattle.fits.specs.FitTurn.{fitting, fit_of, room_for, fit_run, fit_fits, fit_turn_of, FitHanded, FitPromise}
 use Rattle.fits_laws.specs.Questions.{FitBack}
+use Rattle.terms.specs.declared.Turn.{Turn}
 
 -- ---- the code's answers and the turn that they tell
 
@@ -38,10 +38,10 @@ abbrev pub shown : Turned Fitting → Turned Fitting
 shown t = record { state = t.state; steps = t.steps; halt = fit_halt t.state.stage t.halt }
 
 -- what was handed back, as a turn
-abbrev pub turned_of : FitTurn → List ℕ → Turned Fitting
+abbrev pub turned_of : Turn Fit → List ℕ → Turned Fitting
 turned_of r left = record { state = fitting r.state left; steps = r.steps; halt = halt_of r.stop }
 
-pub handed_turned : (r : FitTurn) (left : List ℕ) (t : Turned Fitting) → FitHanded r left t → turned_of r left ≡ shown t
+pub handed_turned : (r : Turn Fit) (left : List ℕ) (t : Turned Fitting) → FitHanded r left t → turned_of r left ≡ shown t
 handed_turned r left t h =
     let a = ap (λ (p : Fit). p.node) h.state in
     let b = ap (λ (p : Fit). p.entry.0) h.state in
@@ -89,7 +89,7 @@ stage_apart Stage.No Stage.Yes e = absurd (omega arith)
 
 -- ---- one result
 
-pub one_result : (sig twig room : List ℕ) (b : ℕ) (st : Fit) (r q : FitTurn) (l k : List ℕ)
+pub one_result : (sig twig room : List ℕ) (b : ℕ) (st : Fit) (r q : Turn Fit) (l k : List ℕ)
     → FitPromise sig twig room b st r l → FitPromise sig twig room b st q k → (r ≡ q) × (l ≡ k)
 one_result sig twig room b st r q l k p o =
     let x = p.state ∙ sym o.state in
@@ -131,7 +131,7 @@ module _ (sig twig : List ℕ) where
 
   -- ---- one turn, from any state
 
-  module _ (room : List ℕ) (b : ℕ) (st : Fit) (r : FitTurn) (left : List ℕ) (p : FitPromise sig twig room b st r left) where
+  module _ (room : List ℕ) (b : ℕ) (st : Fit) (r : Turn Fit) (left : List ℕ) (p : FitPromise sig twig room b st r left) where
     is : turned_of r left ≡ shown (whole b (fitting st room))
     is = handed_turned r left (whole b (fitting st room)) p
 
@@ -171,10 +171,10 @@ module _ (sig twig : List ℕ) where
 
   -- ---- turns one after the other
 
-  module _ (a b : ℕ) (room : List ℕ) (st : Fit) (x r : FitTurn) (mid left : List ℕ)
+  module _ (a b : ℕ) (room : List ℕ) (st : Fit) (x r : Turn Fit) (mid left : List ℕ)
       (p : FitPromise sig twig room a st x mid) (o : FitPromise sig twig room (a + b) st r left) where
     -- stopped by its budget, a turn of a steps and then one of b are the turn of a + b
-    pub cut_anywhere : (y : FitTurn) (last : List ℕ) → x.stop ≡ Stop.Budget → FitPromise sig twig mid b x.state y last
+    pub cut_anywhere : (y : Turn Fit) (last : List ℕ) → x.stop ≡ Stop.Budget → FitPromise sig twig mid b x.state y last
         → turned_of r left ≡ Laws.after Fitting told step a (turned_of y last)
     cut_anywhere y last e q =
         let h = is room a st x mid p in

@@ -12,8 +12,8 @@ use Rattle.trees.specs.Signature.{entries_of, width, entries}
 use Rattle.ordering.specs.Answer.{Answer}
 use Rattle.fits_rows.specs.Fitting.{Fitting}
 use Rattle.fits.specs.declared.Fit.{Fit}
-use Rattle.fits.specs.declared.FitTurn.{FitTurn}
 use Rattle.fits.specs.FitTurn.{fresh_of, fitting, FitPromise}
+use Rattle.terms.specs.declared.Turn.{Turn}
 
 -- a saved state, and the room that is lent with it
 pub record FitLent : Type 0 where
@@ -22,7 +22,7 @@ pub record FitLent : Type 0 where
 
 -- what a turn hands back, and the room that it leaves
 pub record FitBack : Type 0 where
-  pub turn : FitTurn
+  pub turn : Turn Fit
   pub left : List ℕ
 
 -- the state and the room for the next turn

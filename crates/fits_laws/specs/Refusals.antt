@@ -21,9 +21,9 @@ use Rattle.fits_rows.specs.Fitting as rule
 use Rattle.ordering.specs.Twig.{bad_end}
 use Rattle.fits_rows.specs.Fitting.{Fitting, place_fits, in_range, fit_step}
 use Rattle.fits.specs.declared.Fit.{Fit}
-use Rattle.fits.specs.declared.FitTurn.{FitTurn}
 use Rattle.fits.specs.Stages.{fit_halt}
 use Rattle.fits.specs.FitTurn.{fresh_of, fitting, room_for, fit_run, fit_fits, fit_turn_of, FitPromise}
+use Rattle.terms.specs.declared.Turn.{Turn}
 
 pub fit_number : (s : Stage) (h : Halt) → (halt_told (fit_halt s h)).number ≡ (halt_told h).number
 fit_number s Halt.answer = refl
@@ -59,7 +59,7 @@ module _ (sig twig : List ℕ) (b : ℕ) (st : Fitting) where
       rw (fit_number (fit_turn_of sig twig b st).state.stage (fit_turn_of sig twig b st).halt)
       (begun_ten (room_for sig twig) sig twig (length st.room) st (fit_fits sig twig st) (fit_run sig twig b st) fit_steps)
 
-pub fit_ten_exactly : (sig twig room : List ℕ) (b : ℕ) (st : Fit) (r : FitTurn) (left : List ℕ) → FitPromise sig twig room b st r left
+pub fit_ten_exactly : (sig twig room : List ℕ) (b : ℕ) (st : Fit) (r : Turn Fit) (left : List ℕ) → FitPromise sig twig room b st r left
     → ((told r.stop).number ≡ 10) ↔ RoomTen (room_for sig twig) sig twig (fit_fits sig twig (fitting st room)) (length room)
 fit_ten_exactly sig twig room b st r left p = rw p.stop (fit_ten sig twig b (fitting st room))
 
@@ -73,5 +73,5 @@ single_fresh : fit_fits single single (fitting (fresh_of 1 1) []) ≡ true
 unfolding in_range place_fits
 single_fresh = refl
 
-pub single_ten : (b : ℕ) (r : FitTurn) (left : List ℕ) → FitPromise single single [] b (fresh_of 1 1) r left → (told r.stop).number ≡ 10
+pub single_ten : (b : ℕ) (r : Turn Fit) (left : List ℕ) → FitPromise single single [] b (fresh_of 1 1) r left → (told r.stop).number ≡ 10
 single_ten b r left p = (fit_ten_exactly single single [] b (fresh_of 1 1) r left p).1 (single_given, single_fresh, omega arith)

@@ -8,7 +8,7 @@
 --   ten_range, ten_count_one            the state handed back is in range, and one count joins two states
 --   four_altered                        over rooms that anybody alters
 --   five_fault                          Five with an ff past its end, met by the second step
-use Rattle.std.specs.Prelude.{ℕ, ◌+◌, ◌≤◌, ◌≡◌, refl, true, List, [], ◌∷◌, length, replicate}
+use Rattle.std.specs.Prelude.{ℕ, ◌+◌, ◌≤◌, ◌≡◌, refl, true, List, [], ◌∷◌, length, replicate, Ok}
 use Rattle.std.proofs.Common.{ap, sym, ◌∙◌, arith}
 use Rattle.turns.specs.Turn.{Steps, run}
 use Rattle.turns.specs.Laws.{after, AtFault}
@@ -17,7 +17,6 @@ use Rattle.trees.specs.Signature.{cell}
 use Rattle.trees.specs.Names.{passes}
 use Rattle.walks.specs.Image.{image}
 use Rattle.terms.specs.declared.Stop.{Stop}
-use Rattle.terms.specs.declared.Written.{Written}
 use Rattle.terms.specs.Length.{length_fault}
 use Rattle.checking.specs.Rule as check
 use Rattle.checking.specs.Turn.{turn_within}
@@ -31,7 +30,6 @@ use Rattle.fits_rows.specs.declared.Stage.{Stage}
 use Rattle.fits_rows.specs.Fitting.{Fitting, told, place_fits, in_range, is_yes, goes_on, fit_step}
 use Rattle.fits_rows.specs.FittingLaws.{ranged_facts}
 use Rattle.fits.specs.declared.Fit.{Fit}
-use Rattle.fits.specs.declared.FitTurn.{FitTurn}
 use Rattle.fits.specs.FitTurn.{fit_at, fresh_of, fitting, fit_fits, fit_turn_of, FitPromise}
 use Rattle.fits_laws.specs.Questions.{FitBack, reading, begins, FitTurns, Answers}
 use Rattle.fits_laws.specs.Public as public
@@ -41,6 +39,8 @@ use Rattle.fits_laws.specs.Exactly.{fits_within, fits_count, yes_entry}
 use Rattle.fits_laws.specs.Beside.{Mapped, fits_maps, fits_agrees}
 use Rattle.fits_laws.specs.Once.{Same, fits_once}
 use Rattle.fits_laws.specs.Cases.{full, four_accepted, ten_accepted, ten_turn, four_chain, ten_chain, four_no, ten_yes}
+use Rattle.terms.specs.declared.Turn.{Turn}
+use Rattle.terms.specs.Stops.{Written}
 
 -- ---- steps, and where the root stands
 
@@ -90,11 +90,11 @@ ten_map = (fits_maps ten (fork 8 9 10) ten_accepted (full 30) (omega arith) (ten
 pub four_map : Mapped tarts (fork 2 3 4) four_accepted (full 12) (omega arith) (four_chain 12) → ⊥
 four_map = (fits_maps tarts (fork 2 3 4) four_accepted (full 12) (omega arith) (four_chain 12)).no_map four_no.0
 
-pub ten_agrees : (a : Written) (left : List ℕ) → OrderedPromise ten (fork 8 9 10) (replicate 3 0) (full 3) a left → a ≡ Written.Length 3
+pub ten_agrees : (a : Written) (left : List ℕ) → OrderedPromise ten (fork 8 9 10) (replicate 3 0) (full 3) a left → a ≡ Ok 3
 ten_agrees a left p =
     (fits_agrees ten (fork 8 9 10) ten_accepted (full 30) (omega arith) (ten_chain 23) (full 3) (omega arith) a left p).yes_gives ten_yes.0
 
-pub four_agrees : (a : Written) (left : List ℕ) → OrderedPromise tarts (fork 2 3 4) (replicate 3 0) (full 3) a left → a ≡ Written.Length 0
+pub four_agrees : (a : Written) (left : List ℕ) → OrderedPromise tarts (fork 2 3 4) (replicate 3 0) (full 3) a left → a ≡ Ok 0
 four_agrees a left p =
     (fits_agrees tarts (fork 2 3 4) four_accepted (full 12) (omega arith) (four_chain 12) (full 3) (omega arith) a left p).no_gives four_no.0
 
@@ -107,7 +107,7 @@ unfolding run turn_within length_fault check.in_range check.step_of check.close_
 ten_spent = (refl, refl)
 
 -- whatever turn of one step comes next, with it they are the turn of 23
-pub ten_cut : (y : FitTurn) (last : List ℕ) → FitPromise ten (fork 8 9 10) (ten_turn 22).left 1 (ten_turn 22).turn.state y last
+pub ten_cut : (y : Turn Fit) (last : List ℕ) → FitPromise ten (fork 8 9 10) (ten_turn 22).left 1 (ten_turn 22).turn.state y last
     → turned_of (ten_turn 23).turn (ten_turn 23).left ≡ after Fitting told (step ten (fork 8 9 10)) 22 (turned_of y last)
 ten_cut y last q =
     public.cut_anywhere ten (fork 8 9 10) 22 1 (full 30) (fresh_of 3 10) (ten_turn 22).turn (ten_turn 23).turn (ten_turn 22).left (ten_turn 23).left
@@ -115,7 +115,7 @@ ten_cut y last q =
     (back_handed (fit_turn_of ten (fork 8 9 10) 23 (reading (begins ten (fork 8 9 10) (full 30))))) y last ten_spent.0 q
 
 -- with more to spend nothing changes
-pub ten_kept : (b : ℕ) (r : FitTurn) (left : List ℕ) → FitPromise ten (fork 8 9 10) (full 30) (23 + b) (fresh_of 3 10) r left
+pub ten_kept : (b : ℕ) (r : Turn Fit) (left : List ℕ) → FitPromise ten (fork 8 9 10) (full 30) (23 + b) (fresh_of 3 10) r left
     → turned_of r left ≡ turned_of (ten_turn 23).turn (ten_turn 23).left
 ten_kept b r left o =
     public.cut_kept ten (fork 8 9 10) 23 b (full 30) (fresh_of 3 10) (ten_turn 23).turn r (ten_turn 23).left left
@@ -129,7 +129,7 @@ ten_good l h = record {
 }
 
 -- "a question at yes […] reports the same again for every budget"
-pub ten_stays : (b : ℕ) (l : List ℕ) → 30 ≤ length l → (r : FitTurn) (left : List ℕ) → FitPromise ten (fork 8 9 10) l b (fit_at 1 8 Stage.Yes) r left
+pub ten_stays : (b : ℕ) (l : List ℕ) → 30 ≤ length l → (r : Turn Fit) (left : List ℕ) → FitPromise ten (fork 8 9 10) l b (fit_at 1 8 Stage.Yes) r left
     → r.stop ≡ Stop.Answer
 ten_stays b l h r left p = (public.told_stays ten (fork 8 9 10) l b (fit_at 1 8 Stage.Yes) r left p (ten_good l h) refl).2
 
@@ -139,7 +139,7 @@ ten_fresh_law : fit_fits ten (fork 8 9 10) (fitting (fresh_of 3 10) (full 30)) �
 unfolding in_range place_fits
 ten_fresh_law = refl
 
-module _ (b : ℕ) (r : FitTurn) (left : List ℕ) (p : FitPromise ten (fork 8 9 10) (full 30) b (fresh_of 3 10) r left) where
+module _ (b : ℕ) (r : Turn Fit) (left : List ℕ) (p : FitPromise ten (fork 8 9 10) (full 30) b (fresh_of 3 10) r left) where
   pub ten_range : fit_fits ten (fork 8 9 10) (fitting r.state left) ≡ true
   ten_range = public.handed_back_in_range ten (fork 8 9 10) (full 30) b (fresh_of 3 10) r left p ten_fresh_law
 
@@ -153,7 +153,7 @@ unfolding in_range place_fits
 four_fresh_law = refl
 
 -- twelve numbers are left at first, whoever alters the room
-pub four_altered : {B K : ℕ} {r : FitTurn} → Altered tarts (fork 2 3 4) (fresh_of 3 4) B K r → K ≤ 12
+pub four_altered : {B K : ℕ} {r : Turn Fit} → Altered tarts (fork 2 3 4) (fresh_of 3 4) B K r → K ≤ 12
 four_altered c = altered_within tarts (fork 2 3 4) c four_fresh_law
 
 -- ---- a fault

@@ -8,7 +8,7 @@
 --   five_table, four_table, ten_table   what preparing leaves
 --   five_start, five_turns   the start call for Five, and two turns
 --   five_prepared_law, four_prepared, ten_prepared   each is prepared: Five in two turns, the others in one
-use Rattle.std.specs.Prelude.{ℕ, ◌+◌, ◌*◌, refl, List, [], ◌∷◌, replicate}
+use Rattle.std.specs.Prelude.{ℕ, ◌+◌, ◌*◌, refl, List, [], ◌∷◌, replicate, Ok}
 use Rattle.turns.specs.Turn.{Turned, run}
 use Rattle.turns.specs.Chains.{one, more}
 use Rattle.trees.specs.Signature.{cell}
@@ -19,16 +19,15 @@ use Rattle.checking.specs.Turn.{turn_within}
 use Rattle.terms.specs.Length.{length_fault}
 use Rattle.checked.specs.Apart.{stop_of, told_stop}
 use Rattle.checked.specs.Menus.{ten, five, tarts, fork, pair}
-use Rattle.preparing.specs.declared.Started.{Started}
 use Rattle.walking.specs.declared.Walk.{Walk}
-use Rattle.walking.specs.declared.WalkTurn.{WalkTurn}
 use Rattle.preparing.specs.Masks.{every, has_bit, mask, put}
 use Rattle.twig_turns.specs.Given.{given_of, ready_for, begun_for}
 use Rattle.twig_turns.specs.Grounds.{Accepted}
 use Rattle.preparing.specs.Preparing.{Preparing, children_in, stands, can_of, bad_parent, written, joined, step_table, prep_step}
 use Rattle.preparing.specs.PrepTurn.{cleared, start_fault, StartPromise, prep_at, PrepHanded}
-use Rattle.walking.specs.WalkTurn.{WalkHanded}
 use Rattle.listed.specs.Questions.{PrepBack, PrepTurns, Prepared}
+use Rattle.terms.specs.declared.Turn.{Turn}
+use Rattle.terms.specs.Stops.{Handed}
 
 -- ---- what the code hands back
 
@@ -40,11 +39,11 @@ pub prep_handed : (t : Turned Preparing) → PrepHanded (prep_back t).turn (prep
 prep_handed t = record { state = refl; steps = refl; stop = told_stop t.halt; leaves = refl }
 
 -- what the code hands back for a turn of the walk by the rule
-abbrev pub walk_back : Turned Walk → WalkTurn
-walk_back t = record { walk = t.state; steps = t.steps; stop = stop_of t.halt }
+abbrev pub walk_back : Turned Walk → Turn Walk
+walk_back t = record { state = t.state; steps = t.steps; stop = stop_of t.halt }
 
-pub walk_handed : (t : Turned Walk) → WalkHanded (walk_back t) t
-walk_handed t = record { walk = refl; steps = refl; stop = told_stop t.halt }
+pub walk_handed : (t : Turned Walk) → Handed (walk_back t) t
+walk_handed t = record { state = refl; steps = refl; stop = told_stop t.halt }
 
 -- ---- accepted
 
@@ -86,7 +85,7 @@ lent_for n = replicate (2 * n + 1) 7
 abbrev pub cleared_for : ℕ → List ℕ
 cleared_for n = cleared (2 * n) (lent_for n)
 
-pub five_start : StartPromise 5 (lent_for 5) (Started.Fresh (prep_at 5)) (cleared_for 5)
+pub five_start : StartPromise 5 (lent_for 5) (Ok (prep_at 5)) (cleared_for 5)
 unfolding start_fault cleared
 five_start = record { answer = refl; leaves = refl }
 

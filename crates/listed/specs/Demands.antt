@@ -6,7 +6,7 @@
 --   PrepThree, WalkThree   demand 3: each turn is what document 01 says of a turn of the written rule
 --   ours_prep_two, ours_walk_two, ours_prep_three, ours_walk_three   whatever keeps our promises meets them
 --   prep_three_turn, walk_three_turn   demand 3 leaves one turn only
-use Rattle.std.specs.Prelude.{ℕ, ◌+◌, ◌*◌, ◌≤◌, ◌≡◌, ◌⊎◌, true, length}
+use Rattle.std.specs.Prelude.{ℕ, ◌+◌, ◌*◌, ◌≤◌, ◌≡◌, ◌⊎◌, true, length, Ok}
 use Rattle.std.proofs.Math.Path.{refl, ap}
 use Rattle.std.proofs.Common.{◌∙◌, sym, subst, inl, inr, arith, le-leb}
 use mathlib.Core.List.{List, ◌++◌}
@@ -17,21 +17,21 @@ use Rattle.trees.specs.Signature.{entries_of, width, entries}
 use Rattle.walks.specs.Chained.{told, AllButLast}
 use Rattle.terms.specs.declared.Stop.{Stop}
 use Rattle.preparing.specs.declared.Prep.{Prep}
-use Rattle.preparing.specs.declared.Started.{Started}
 use Rattle.walking.specs.declared.Walk.{Walk}
-use Rattle.walking.specs.declared.WalkTurn.{WalkTurn}
 use Rattle.preparing.specs.Masks.{can}
 use Rattle.twig_turns.specs.Given.{given_of}
 use Rattle.twig_turns.specs.Grounds.{Accepted}
 use Rattle.preparing.specs.Preparing.{Preparing, prepared, prep_step}
 use Rattle.preparing.specs.PrepTurn.{StartPromise, prep_in_range, prep_run_of, PrepHanded, PrepPromise}
 use Rattle.walking.specs.Walking.{in_range, step_of, ended, fresh}
-use Rattle.walking.specs.WalkTurn.{walk_run_of, WalkHanded, WalkPromise}
+use Rattle.walking.specs.WalkTurn.{walk_run_of, WalkPromise}
 use Rattle.listed.specs.Questions.{Lent, PrepBack, lend, reading, TableSays, NoBitsAbove, Prepared, tell_of, start, OnTheWay, handed}
 use Rattle.listed.specs.Given.{begun_runs}
 use Rattle.listed.specs.Ruling.{Ready}
 use Rattle.listed.specs.Prepared.{Done, Short, prepare_n, prepare_bits, prepare_ends}
 use Rattle.listed.specs.Exactly.{all_loose, loose_exactly, walk_within_law}
+use Rattle.terms.specs.declared.Turn.{Turn}
+use Rattle.terms.specs.Stops.{Handed}
 
 -- given signature, twig, budget, and state and table
 abbrev pub Preparer : Type 0
@@ -39,48 +39,48 @@ Preparer = List ℕ → List ℕ → ℕ → Lent → PrepBack
 
 -- given signature, twig, table, budget and saved walk
 abbrev pub Walker : Type 0
-Walker = List ℕ → List ℕ → List ℕ → ℕ → Walk → WalkTurn
+Walker = List ℕ → List ℕ → List ℕ → ℕ → Walk → Turn Walk
 
 -- calls of a turn of preparing one after the other, each given the state and the table that the one before left
 abbrev pub PrepCalls : Preparer → List ℕ → List ℕ → Lent → ℕ → ℕ → PrepBack → Type 0
 PrepCalls call s tw st B K r = Chain Lent PrepBack (λ b from t. t ≡ call s tw b from) lend (λ t. t.turn.steps) st B K r
 
 -- calls of a turn of the walk one after the other, each given the walk that the one before handed back
-abbrev pub WalkCalls : Walker → List ℕ → List ℕ → List ℕ → Walk → ℕ → ℕ → WalkTurn → Type 0
-WalkCalls call s tw table w B K r = Chain Walk WalkTurn (λ b from t. t ≡ call s tw table b from) (λ t. t.walk) (λ t. t.steps) w B K r
+abbrev pub WalkCalls : Walker → List ℕ → List ℕ → List ℕ → Walk → ℕ → ℕ → Turn Walk → Type 0
+WalkCalls call s tw table w B K r = Chain Walk (Turn Walk) (λ b from t. t ≡ call s tw table b from) (λ t. t.state) (λ t. t.steps) w B K r
 
 -- "from the start, and from any answer", of any turn of walking: the fresh walk, or one that calls from it handed back
 pub data WayOf (call : Walker) (s tw table : List ℕ) : Walk → Type 0 where
   begins : WayOf call s tw table fresh
-  after : {B K : ℕ} {r : WalkTurn} → WalkCalls call s tw table fresh B K r → WayOf call s tw table r.walk
+  after : {B K : ℕ} {r : Turn Walk} → WalkCalls call s tw table fresh B K r → WayOf call s tw table r.state
 
 -- ---- demand 2
 
 -- from what the start call left: the table is right where the end is reported, and it is reported where n steps may be spent
 pub record PrepTwo (call : Preparer) : Type 0 where
-  pub sound : (s tw lent left : List ℕ) (p : Prep) → Accepted s tw → StartPromise (entries s) lent (Started.Fresh p) left
+  pub sound : (s tw lent left : List ℕ) (p : Prep) → Accepted s tw → StartPromise (entries s) lent (Ok p) left
       → {B K : ℕ} {r : PrepBack}
       → PrepCalls call s tw (record { state = p; table = left }) B K r → r.turn.stop ≡ Stop.End → TableSays s tw r.left
-  pub bare : (s tw lent left : List ℕ) (p : Prep) → Accepted s tw → StartPromise (entries s) lent (Started.Fresh p) left
+  pub bare : (s tw lent left : List ℕ) (p : Prep) → Accepted s tw → StartPromise (entries s) lent (Ok p) left
       → {B K : ℕ} {r : PrepBack}
       → PrepCalls call s tw (record { state = p; table = left }) B K r → r.turn.stop ≡ Stop.End → NoBitsAbove s tw r.left
-  pub complete : (s tw lent left : List ℕ) (p : Prep) → Accepted s tw → StartPromise (entries s) lent (Started.Fresh p) left
+  pub complete : (s tw lent left : List ℕ) (p : Prep) → Accepted s tw → StartPromise (entries s) lent (Ok p) left
       → {B K : ℕ} {r : PrepBack}
       → PrepCalls call s tw (record { state = p; table = left }) B K r → entries s ≤ B → r.turn.stop ≡ Stop.End
 
 -- over a prepared table, from the fresh walk: "the answers told, in order, are the ascending list" and then the end
 pub record WalkTwo (call : Walker) : Type 0 where
   pub front : (s tw left : List ℕ) → Accepted s tw → Prepared s tw left
-      → {B K : ℕ} {r : WalkTurn} (c : WalkCalls call s tw left fresh B K r)
+      → {B K : ℕ} {r : Turn Walk} (c : WalkCalls call s tw left fresh B K r)
       → (rest : List (List ℕ)) × (told (tell_of (entries tw)) c ++ rest ≡ all_loose s tw)
   pub whole : (s tw left : List ℕ) → Accepted s tw → Prepared s tw left
-      → {B K : ℕ} {r : WalkTurn} (c : WalkCalls call s tw left fresh B K r)
+      → {B K : ℕ} {r : Turn Walk} (c : WalkCalls call s tw left fresh B K r)
       → r.stop ≡ Stop.End → told (tell_of (entries tw)) c ≡ all_loose s tw
   pub unrefused : (s tw left : List ℕ) → Accepted s tw → Prepared s tw left
-      → {B K : ℕ} {r : WalkTurn} (c : WalkCalls call s tw left fresh B K r)
+      → {B K : ℕ} {r : Turn Walk} (c : WalkCalls call s tw left fresh B K r)
       → (r.stop ≡ Stop.Answer) ⊎ (r.stop ≡ Stop.End) ⊎ (r.stop ≡ Stop.Budget)
   pub arrives : (s tw left : List ℕ) → Accepted s tw → Prepared s tw left
-      → {w : Walk} {B K : ℕ} {r : WalkTurn} → WayOf call s tw left w → (c : WalkCalls call s tw left w B K r)
+      → {w : Walk} {B K : ℕ} {r : Turn Walk} → WayOf call s tw left w → (c : WalkCalls call s tw left w B K r)
       → AllButLast (λ u. u.stop ≡ Stop.Budget) c → 2 * (entries tw * entries s) + 1 ≤ B → (r.stop ≡ Stop.Answer) ⊎ (r.stop ≡ Stop.End)
 
 -- ---- demand 3
@@ -97,7 +97,7 @@ abbrev pub WalkThree : Walker → Type 0
 WalkThree call =
     (s tw left : List ℕ) → (given_of s tw).reason ≡ 1 → 2 * entries s ≤ length left → (b : ℕ) (w : Walk)
     → in_range (entries s) (entries tw) (entries_of width tw) w ≡ true
-    → (t : Turned Walk) × WalkHanded (call s tw left b w) t
+    → (t : Turned Walk) × Handed (call s tw left b w) t
     × Outcome Walk ended (step_of (entries s) (entries tw) (entries_of width s) (entries_of width tw) (can left)) b w t
 
 -- ---- chains of calls that keep a promise
@@ -151,7 +151,7 @@ module _ (call : Preparer) (promise : (s tw : List ℕ) (b : ℕ) (st : Lent)
       )
 
 module _ (call : Walker) (promise : (s tw left : List ℕ) (b : ℕ) (w : Walk) → WalkPromise s tw left b w (call s tw left b w)) where
-  keeps_walk : (s tw left : List ℕ) (b : ℕ) (w : Walk) (r : WalkTurn) → r ≡ call s tw left b w → WalkPromise s tw left b w r
+  keeps_walk : (s tw left : List ℕ) (b : ℕ) (w : Walk) (r : Turn Walk) → r ≡ call s tw left b w → WalkPromise s tw left b w r
   keeps_walk s tw left b w r q = subst (WalkPromise s tw left b w) (sym q) (promise s tw left b w)
 
   way : (s tw left : List ℕ) {w : Walk} → WayOf call s tw left w → OnTheWay s tw left w
@@ -175,7 +175,7 @@ module _ (call : Walker) (promise : (s tw left : List ℕ) (b : ℕ) (w : Walk) 
   ours_walk_three s tw left g l b w i =
       let run = walk_run_of (entries s) (entries tw) (entries_of width s) (entries_of width tw) (can left) b w in (
         run,
-        subst (WalkHanded (call s tw left b w))
+        subst (Handed (call s tw left b w))
             (begun_runs s tw g (length left) w (in_range (entries s) (entries tw) (entries_of width tw) w) run i l) (promise s tw left b w),
         turn_outcome Walk ended (step_of (entries s) (entries tw) (entries_of width s) (entries_of width tw) (can left)) b w,
       )
@@ -192,7 +192,7 @@ prep_three_turn call d s tw g b st i =
 
 pub walk_three_turn : (call : Walker) → WalkThree call → (s tw left : List ℕ) → (given_of s tw).reason ≡ 1 → 2 * entries s ≤ length left
     → (b : ℕ) (w : Walk) → in_range (entries s) (entries tw) (entries_of width tw) w ≡ true
-    → WalkHanded (call s tw left b w) (walk_run_of (entries s) (entries tw) (entries_of width s) (entries_of width tw) (can left) b w)
+    → Handed (call s tw left b w) (walk_run_of (entries s) (entries tw) (entries_of width s) (entries_of width tw) (can left) b w)
 walk_three_turn call d s tw left g l b w i =
     let x = d s tw left g l b w i in
-    subst (WalkHanded (call s tw left b w)) (sym (outcome_turn Walk _ _ x.2)) x.1
+    subst (Handed (call s tw left b w)) (sym (outcome_turn Walk _ _ x.2)) x.1

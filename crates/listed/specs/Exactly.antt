@@ -29,7 +29,6 @@ use Rattle.terms.specs.declared.Stop.{Stop}
 use Rattle.checked.specs.Apart.{stop_of}
 use Rattle.twig_turns.specs.Grounds.{Accepted, Grounds, accepted_grounds}
 use Rattle.walking.specs.declared.Walk.{Walk}
-use Rattle.walking.specs.declared.WalkTurn.{WalkTurn}
 use Rattle.preparing.specs.Masks.{can}
 use Rattle.walking.specs.Walking.{fresh}
 use Rattle.listed.specs.Loose.{LooseAnswer}
@@ -39,6 +38,7 @@ use Rattle.listed.specs.Choosing.{loose_answers}
 use Rattle.listed.specs.Answered.{bits_listed, loose_sound, loose_complete, loose_ascending, loose_once, loose_unique}
 use Rattle.listed.specs.Saved.{by_bit}
 use Rattle.listed.specs.Walked.{prepared_right, bits, ch, rise, bound, fresh_run, way_run}
+use Rattle.terms.specs.declared.Turn.{Turn}
 
 -- no turn of a walk is refused
 outcome_unrefused : (ch : Choices) {b : ℕ} {w : walks.Walk} {t : Turned walks.Walk} → Outcome walks.Walk walk_done (walk_step ch) b w t
@@ -81,7 +81,7 @@ pub record AllOf (s tw : List ℕ) (l : List (List ℕ)) : Type 0 where
 
 module _ (s tw : List ℕ) where
   -- what is told along a chain of walking turns from the fresh walk
-  pub record Listed (left : List ℕ) {B K : ℕ} {r : WalkTurn} (c : WalkTurns s tw left fresh B K r) : Type 0 where
+  pub record Listed (left : List ℕ) {B K : ℕ} {r : Turn Walk} (c : WalkTurns s tw left fresh B K r) : Type 0 where
     pub rest : List (List ℕ)
     pub front : told (tell_of (entries tw)) c ++ rest ≡ all_loose s tw
     pub whole : r.stop ≡ Stop.End → told (tell_of (entries tw)) c ≡ all_loose s tw
@@ -91,7 +91,7 @@ module _ (s tw : List ℕ) where
     pub once : Pairs (λ y z. y ≡ z → ⊥) (all_loose s tw)
 
   -- turns that each but the last spent their budget: to the next answer or the end
-  pub record Within (B K : ℕ) (r : WalkTurn) : Type 0 where
+  pub record Within (B K : ℕ) (r : Turn Walk) : Type 0 where
     pub limit : K ≤ 2 * (entries tw * entries s) + 1
     pub arrives : 2 * (entries tw * entries s) + 1 ≤ B → (r.stop ≡ Stop.Answer) ⊎ (r.stop ≡ Stop.End)
 
@@ -150,7 +150,7 @@ module _ (s tw : List ℕ) where
           (bits s tw g left pr)
 
       -- demand 2: the answers told, in order, are the front of the list; where the end is reported they are the list
-      pub loose_exactly : {B K : ℕ} {r : WalkTurn} (c : WalkTurns s tw left fresh B K r) → Listed left c
+      pub loose_exactly : {B K : ℕ} {r : Turn Walk} (c : WalkTurns s tw left fresh B K r) → Listed left c
       loose_exactly {r = r} c =
           let x = fresh_run s tw g left pr c in
           let a = ahead (ch s tw g left pr) x.last.state in
@@ -173,7 +173,7 @@ module _ (s tw : List ℕ) where
           }
 
       -- the number of steps to the end is one number, whatever the budgets of the turns
-      pub end_steps_once : {B C K L : ℕ} {r u : WalkTurn} → WalkTurns s tw left fresh B K r → WalkTurns s tw left fresh C L u
+      pub end_steps_once : {B C K L : ℕ} {r u : Turn Walk} → WalkTurns s tw left fresh B K r → WalkTurns s tw left fresh C L u
           → r.stop ≡ Stop.End → u.stop ≡ Stop.End → K ≡ L
       end_steps_once c d p q =
           let x = fresh_run s tw g left pr c in
@@ -190,7 +190,7 @@ module _ (s tw : List ℕ) where
       budgets (more {r = t} q c) h = (halt_budget t.halt h.0, budgets c h.1)
 
       -- demand 3: the steps of turns that each but the last spent their budget, summed
-      pub walk_within_law : {w : Walk} {B K : ℕ} {r : WalkTurn} → OnTheWay s tw left w → (c : WalkTurns s tw left w B K r)
+      pub walk_within_law : {w : Walk} {B K : ℕ} {r : Turn Walk} → OnTheWay s tw left w → (c : WalkTurns s tw left w B K r)
           → AllButLast (λ u. u.stop ≡ Stop.Budget) c → Within B K r
       walk_within_law {B = B} {K = K} {r = r} i c h =
           let x = way_run s tw g left pr c i in

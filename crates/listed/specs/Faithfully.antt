@@ -63,4 +63,4 @@ walk_faithful call d s tw left g l b w i =
 pub faithful_walk : (call : Walker) → WalkFaithful call → WalkThree call
 faithful_walk call f s tw left g l b w i =
     let r = call s tw left b w in
-    (walk.turned_of r, record { walk = refl; steps = refl; stop = halt_of_law r.stop }, f s tw left g l b w i)
+    (walk.turned_of r, record { state = refl; steps = refl; stop = halt_of_law r.stop }, f s tw left g l b w i)

@@ -5,7 +5,7 @@
 --   grounds_right    the same as prepare_n, from the facts of both trees
 --   prepare_n        any chain of public turns that reports the end took n steps in all, and left such a table
 --   prepare_ends     one that may spend n steps reports the end; one that may spend fewer spends them all, and none is refused
-use Rattle.std.specs.Prelude.{ℕ, ◌*◌, ◌≤◌, ◌<◌, ◌≡◌, refl, ◌⊎◌, Bool, true, List, [], eqb, length}
+use Rattle.std.specs.Prelude.{ℕ, ◌*◌, ◌≤◌, ◌<◌, ◌≡◌, refl, ◌⊎◌, Bool, true, List, [], eqb, length, Ok}
 use Rattle.std.proofs.Common.{ap, ◌∙◌, sym, subst, inl, inr, arith, eq-eqb, le-leb}
 use Rattle.turns.specs.Pick.{pick}
 use Rattle.turns.specs.Turn.{Turned, turn}
@@ -15,7 +15,6 @@ use Rattle.terms.specs.declared.Stop.{Stop}
 use Rattle.checked.specs.Apart.{stop_of, told_halt}
 use Rattle.twig_turns.specs.Grounds.{Accepted, Grounds, accepted_grounds}
 use Rattle.preparing.specs.declared.Prep.{Prep}
-use Rattle.preparing.specs.declared.Started.{Started}
 use Rattle.preparing.specs.Preparing.{Preparing, prepared, prep_step}
 use Rattle.preparing.specs.PrepTurn.{cleared, Fresh, start_fault, StartPromise, prep_run_of, prep_turn_of, prep_in_range, PrepHanded, PrepPromise}
 use Rattle.listed.specs.Tables.{clear_length}
@@ -97,7 +96,7 @@ module _ (s tw : List ℕ) where
       table_is : left ≡ cleared (2 * n) lent
       room : 2 * n ≤ length lent
 
-    start_left : (lent left : List ℕ) (p : Prep) → StartPromise n lent (Started.Fresh p) left → Begun lent left p
+    start_left : (lent left : List ℕ) (p : Prep) → StartPromise n lent (Ok p) left → Begun lent left p
     start_left lent left p h =
         let f : start_fault n (length lent) ≡ 0 = ap (λ (x : Fresh). x.number) (sym h.answer) in
         let q : eqb (start_fault n (length lent)) 0 ≡ true = eq-eqb _ _ f in
@@ -107,7 +106,7 @@ module _ (s tw : List ℕ) where
           room = fault_room n (length lent) f;
         }
 
-    module _ (lent left : List ℕ) (p : Prep) (start : StartPromise n lent (Started.Fresh p) left) where
+    module _ (lent left : List ℕ) (p : Prep) (start : StartPromise n lent (Ok p) left) where
       grounds_ends : {B K : ℕ} {r : PrepBack} → PrepTurns s tw (record { state = p; table = left }) B K r
           → Done s tw B K r ⊎ Short s tw B K r
       grounds_ends {B} {K} {r} c = by (chain_ends Preparing prepared (prep_step e w m) x.chain n
@@ -159,7 +158,7 @@ module _ (s tw : List ℕ) where
 -- ---- the theorems
 
 module _ (s tw : List ℕ) (accepted : Accepted s tw) (lent left : List ℕ) (p : Prep)
-    (start : StartPromise (entries s) lent (Started.Fresh p) left) where
+    (start : StartPromise (entries s) lent (Ok p) left) where
   -- with n steps to spend in all, the end; with fewer, the budget, after all of them; never a refusal
   pub prepare_ends : {B K : ℕ} {r : PrepBack} → PrepTurns s tw (record { state = p; table = left }) B K r
       → Done s tw B K r ⊎ Short s tw B K r

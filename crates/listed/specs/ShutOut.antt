@@ -18,7 +18,6 @@ use Rattle.terms.specs.declared.Refusal.{Refusal}
 use Rattle.checked.specs.Menus.{ten, tarts, fork}
 use Rattle.walk_ranges.specs.declared.Phase.{Phase}
 use Rattle.walking.specs.declared.Walk.{Walk}
-use Rattle.walking.specs.declared.WalkTurn.{WalkTurn}
 use Rattle.preparing.specs.declared.Prep.{Prep}
 use Rattle.preparing.specs.Masks.{every, has_bit, mask, put, can}
 use Rattle.twig_turns.specs.Given.{given_of}
@@ -27,7 +26,7 @@ use Rattle.preparing.specs.Preparing.{Preparing, children_in, stands, can_of, ba
 use Rattle.preparing.specs.PrepTurn.{cleared, prep_at, prep_run_of}
 use Rattle.walk_ranges.specs.Ranges.{image, place, image_fits, phase_fits}
 use Rattle.walking.specs.Walking.{at, fresh, in_range, end_of, bad_end, back, found, walk_on, step_of}
-use Rattle.walking.specs.WalkTurn.{walk_run_of, WalkHanded}
+use Rattle.walking.specs.WalkTurn.{walk_run_of}
 use Rattle.listed.specs.Loose.{PartFits}
 use Rattle.listed.specs.Questions.{Lent, PrepBack, reading, TableSays}
 use Rattle.listed.specs.Questions as questions
@@ -36,6 +35,8 @@ use Rattle.listed.specs.Prepared.{prepare_n}
 use Rattle.listed.specs.Cases.{four_accepted, ten_accepted, four_table, ten_table, cleared_for, four_prepared, ten_prepared}
 use Rattle.listed.specs.Worked.{four_listed, ten_listed}
 use Rattle.listed.specs.Demands.{Preparer, Walker, PrepTwo, WalkTwo, PrepThree, WalkThree, prep_three_turn, walk_three_turn, begins, after}
+use Rattle.terms.specs.declared.Turn.{Turn}
+use Rattle.terms.specs.Stops.{Handed}
 
 -- ---- demand 2 of preparing
 
@@ -124,36 +125,36 @@ shut_out_walk_refusing call h d =
 pub shut_out_walk_idle : (call : Walker) → ((s tw left : List ℕ) (b : ℕ) (w : Walk) → (call s tw left b w).stop ≡ Stop.Budget) → WalkTwo call → ⊥
 shut_out_walk_idle call h d = not_budget call d (h tarts (fork 2 3 4) four_table 25 fresh)
 
-pub shut_out_walk_fixed : (r : WalkTurn) → WalkTwo (λ s tw left b w. r) → ⊥
+pub shut_out_walk_fixed : (r : Turn Walk) → WalkTwo (λ s tw left b w. r) → ⊥
 unfolding told
 shut_out_walk_fixed r d = by r.stop refl
   where
     by : (x : Stop) → r.stop ≡ x → ⊥
     by Stop.Answer h =
         let f = d.front tarts (fork 2 3 4) four_table four_accepted four_prepared (one {b = 1} refl) in
-        let e : questions.told Stop.Answer (take 3 r.walk.images) ++ f.0 ≡ []
-        = ap (λ (x : Stop). questions.told x (take 3 r.walk.images) ++ f.0) (sym h) ∙ f.1 ∙ four_listed in
+        let e : questions.told Stop.Answer (take 3 r.state.images) ++ f.0 ≡ []
+        = ap (λ (x : Stop). questions.told x (take 3 r.state.images) ++ f.0) (sym h) ∙ f.1 ∙ four_listed in
         let z : ◌≡◌ {A = ℕ} 0 1 = cc in omega arith
     by Stop.End h =
         let f = d.whole ten (fork 8 9 10) ten_table ten_accepted ten_prepared (one {b = 1} refl) h in
         let e : ◌≡◌ {A = List (List ℕ)} [] ((8 ∷ 9 ∷ 10 ∷ []) ∷ [])
-        = ap (λ (x : Stop). questions.told x (take 3 r.walk.images)) (sym h) ∙ f ∙ ten_listed in
+        = ap (λ (x : Stop). questions.told x (take 3 r.state.images)) (sym h) ∙ f ∙ ten_listed in
         let z : ◌≡◌ {A = ℕ} 0 1 = cc in omega arith
     by Stop.Budget h = not_budget (λ s tw left b w. r) d h
     by (Stop.Refused x) h = not_refused (λ s tw left b w. r) d x h
 
 -- any walk that idles after an answer; 8(9,10) on Ten has one answer, and behind it the end is to be reported
 pub shut_out_walk_once : (call : Walker) → ((s tw left : List ℕ) (b c : ℕ) (w : Walk)
-    → (call s tw left b w).stop ≡ Stop.Answer → (call s tw left c (call s tw left b w).walk).stop ≡ Stop.Budget)
+    → (call s tw left b w).stop ≡ Stop.Answer → (call s tw left c (call s tw left b w).state).stop ≡ Stop.Budget)
     → WalkTwo call → ⊥
 unfolding told
 shut_out_walk_once call h d = by (d.arrives ten (fork 8 9 10) ten_table ten_accepted ten_prepared begins (one {b = 61} refl) tt (omega arith))
   where
-    first : WalkTurn
+    first : Turn Walk
     first = call ten (fork 8 9 10) ten_table 61 fresh
 
-    second : WalkTurn
-    second = call ten (fork 8 9 10) ten_table 61 first.walk
+    second : Turn Walk
+    second = call ten (fork 8 9 10) ten_table 61 first.state
 
     idles : second.stop ≡ Stop.Budget → (second.stop ≡ Stop.Answer) ⊎ (second.stop ≡ Stop.End) → ⊥
     idles q (inl e) = let z = sym e ∙ q in let y : ◌≡◌ {A = ℕ} 0 1 = cc in omega arith
@@ -166,7 +167,7 @@ shut_out_walk_once call h d = by (d.arrives ten (fork 8 9 10) ten_table ten_acce
     by (inr e) =
         let f = d.whole ten (fork 8 9 10) ten_table ten_accepted ten_prepared (one {b = 61} refl) e in
         let z : ◌≡◌ {A = List (List ℕ)} [] ((8 ∷ 9 ∷ 10 ∷ []) ∷ [])
-        = ap (λ (x : Stop). questions.told x (take 3 first.walk.images)) (sym e) ∙ f ∙ ten_listed in
+        = ap (λ (x : Stop). questions.told x (take 3 first.state.images)) (sym e) ∙ f ∙ ten_listed in
         let y : ◌≡◌ {A = ℕ} 0 1 = cc in omega arith
 
 -- ---- demand 3 of preparing
@@ -228,20 +229,20 @@ walk_next = refl
 
 -- what demand 3 says of a turn over them
 module _ (call : Walker) (d : WalkThree call) (b : ℕ) where
-  walk_turn_law : WalkHanded (call tarts (fork 2 3 4) four_table b fresh) (four_walk b)
+  walk_turn_law : Handed (call tarts (fork 2 3 4) four_table b fresh) (four_walk b)
   walk_turn_law = walk_three_turn call d tarts (fork 2 3 4) four_table four_given (omega arith) b fresh four_fresh_law
 
-  walk_candidate : (call tarts (fork 2 3 4) four_table b fresh).walk.candidate.0 ≡ (four_walk b).state.candidate.0
-  walk_candidate = ap (λ (w : Walk). w.candidate.0) walk_turn_law.walk
+  walk_candidate : (call tarts (fork 2 3 4) four_table b fresh).state.candidate.0 ≡ (four_walk b).state.candidate.0
+  walk_candidate = ap (λ (w : Walk). w.candidate.0) walk_turn_law.state
 
-pub shut_out_walk_still : (call : Walker) → ((s tw left : List ℕ) (b : ℕ) (w : Walk) → (call s tw left b w).walk ≡ w) → WalkThree call → ⊥
+pub shut_out_walk_still : (call : Walker) → ((s tw left : List ℕ) (b : ℕ) (w : Walk) → (call s tw left b w).state ≡ w) → WalkThree call → ⊥
 shut_out_walk_still call h d =
     let q : ◌≡◌ {A = ℕ} 1 2
     = ap (λ (w : Walk). w.candidate.0) (sym (h tarts (fork 2 3 4) four_table 1 fresh)) ∙ walk_candidate call d 1 ∙ walk_next in
     omega arith
 
 -- the whole walk over the four entries ends with the candidate at 5
-pub shut_out_walk_at_once : (call : Walker) → ((b : ℕ) → (call tarts (fork 2 3 4) four_table b fresh).walk ≡ at (replicate 16 0) 1 5 Phase.Ended)
+pub shut_out_walk_at_once : (call : Walker) → ((b : ℕ) → (call tarts (fork 2 3 4) four_table b fresh).state ≡ at (replicate 16 0) 1 5 Phase.Ended)
     → WalkThree call → ⊥
 shut_out_walk_at_once call h d =
     let q : ◌≡◌ {A = ℕ} 5 2 = ap (λ (w : Walk). w.candidate.0) (sym (h 1)) ∙ walk_candidate call d 1 ∙ walk_next in omega arith

@@ -29,10 +29,9 @@ use Rattle.terms.specs.declared.Stop.{Stop}
 use Rattle.checked.specs.Apart.{stop_of, told_halt}
 use Rattle.twig_turns.specs.Grounds.{Grounds}
 use Rattle.walking.specs.declared.Walk.{Walk}
-use Rattle.walking.specs.declared.WalkTurn.{WalkTurn}
 use Rattle.preparing.specs.Masks.{can}
 use Rattle.walking.specs.Walking.{in_range, step_of, ended, fresh}
-use Rattle.walking.specs.WalkTurn.{walk_run_of, walk_turn_of, WalkHanded, WalkPromise}
+use Rattle.walking.specs.WalkTurn.{walk_run_of, walk_turn_of, WalkPromise}
 use Rattle.listed.specs.Questions.{Prepared, WalkTurns, told, tell_of, OnTheWay, start, handed}
 use Rattle.listed.specs.Given.{begun_runs}
 use Rattle.listed.specs.Public.{Back, Ran, chain_ran}
@@ -41,6 +40,8 @@ use Rattle.listed.specs.Choosing.{parent_of, choices, choices_plain}
 use Rattle.listed.specs.Answered.{Bits, bits_bounded}
 use Rattle.listed.specs.Saved.{by_bit, shown, Way, walk_mirrors}
 use Rattle.listed.specs.Ranged.{way_ranged}
+use Rattle.terms.specs.declared.Turn.{Turn}
+use Rattle.terms.specs.Stops.{Handed}
 
 shown_images : (n : ℕ) (s : walks.Walk) → (shown n s).images ≡ room_of 16 (images s)
 shown_images n (walking r c xs) = refl
@@ -97,27 +98,27 @@ module _ (s tw : List ℕ) (g : Grounds s tw) where
 
     standing_stays : (b : ℕ) (x : Walk) → Standing x → Standing (turn Walk ended step b x).state
     standing_stays b x i =
-        let t = turn walks.Walk walk_done (walk_step ch) b i.walk in
+        let t = turn walks.Walk walk_done (walk_step ch) b i.state in
         record {
-          walk = t.state;
+          state = t.state;
           same = ap (λ (y : Walk). (turn Walk ended step b y).state) i.same
               ∙ ap (λ (u : Turned Walk). u.state)
-              (turn_mirrored (shown n) OnWay walk_done (walk_step ch) ended step mirror b i.walk i.way);
-          way = turn_inv (shown n) OnWay walk_done (walk_step ch) ended step mirror b i.walk i.way;
+              (turn_mirrored (shown n) OnWay walk_done (walk_step ch) ended step mirror b i.state i.way);
+          way = turn_inv (shown n) OnWay walk_done (walk_step ch) ended step mirror b i.state i.way;
         }
 
-    abbrev Is : WalkTurn → Turned Walk → Type 0
-    Is r t = Back (λ x. x.walk) (λ x. x.steps) (λ x. x.stop) (λ x. x) r t
+    abbrev Is : Turn Walk → Turned Walk → Type 0
+    Is r t = Back (λ x. x.state) (λ x. x.steps) (λ x. x.stop) (λ x. x) r t
 
-    walk_runs : (b : ℕ) (x : Walk) (r : WalkTurn) → Standing x → WalkPromise s tw left b x r → Is r (turn Walk ended step b x)
+    walk_runs : (b : ℕ) (x : Walk) (r : Turn Walk) → Standing x → WalkPromise s tw left b x r → Is r (turn Walk ended step b x)
     walk_runs b x r i h =
         let f : in_range n m w x ≡ true = rw i.same
-        (way_ranged n m e w g.tree g.twig g.small (can left) bound i.walk i.way) in
+        (way_ranged n m e w g.tree g.twig g.small (can left) bound i.state i.way) in
         let q : walk_turn_of s tw left b x ≡ walk_run_of n m e w (can left) b x
         = begun_runs s tw g.given (length left) x (in_range n m w x) (walk_run_of n m e w (can left) b x) f right.room in
-        let k : WalkHanded r (walk_run_of n m e w (can left) b x) = subst (WalkHanded r) q h in
+        let k : Handed r (walk_run_of n m e w (can left) b x) = subst (Handed r) q h in
         record {
-          state_same = k.walk;
+          state_same = k.state;
           steps_same = k.steps;
           stop_same = told_halt r.stop (walk_run_of n m e w (can left) b x).halt
               k.stop;
@@ -128,18 +129,18 @@ module _ (s tw : List ℕ) (g : Grounds s tw) where
     abbrev said_of : Turned Walk → List (List ℕ)
     said_of t = told (stop_of t.halt) (take m t.state.images)
 
-    said_same : (r : WalkTurn) (t : Turned Walk) → Standing t.state → Is r t → tell_of m r ≡ said_of t
+    said_same : (r : Turn Walk) (t : Turned Walk) → Standing t.state → Is r t → tell_of m r ≡ said_of t
     said_same r t i k = ap₂ (λ (a : Stop) (x : Walk). told a (take m x.images)) k.stop_same k.state_same
 
-    abbrev Runs : Walk → {x : Walk} {B K : ℕ} {r : WalkTurn} → WalkTurns s tw left x B K r → Type 0
+    abbrev Runs : Walk → {x : Walk} {B K : ℕ} {r : Turn Walk} → WalkTurns s tw left x B K r → Type 0
     Runs y c =
-        Ran (λ b from t. WalkPromise s tw left b from t) (λ t. t.walk) (λ t. t.steps) (λ t. t.stop)
+        Ran (λ b from t. WalkPromise s tw left b from t) (λ t. t.state) (λ t. t.steps) (λ t. t.stop)
         (λ x. x) ended step Standing standing_stays
         walk_runs (tell_of m) said_of said_same y c
 
-    ran : {x : Walk} {B K : ℕ} {r : WalkTurn} (c : WalkTurns s tw left x B K r) → Standing x → Runs x c
+    ran : {x : Walk} {B K : ℕ} {r : Turn Walk} (c : WalkTurns s tw left x B K r) → Standing x → Runs x c
     ran {x} c i =
-        chain_ran (λ b from t. WalkPromise s tw left b from t) (λ t. t.walk) (λ t. t.steps) (λ t. t.stop)
+        chain_ran (λ b from t. WalkPromise s tw left b from t) (λ t. t.state) (λ t. t.steps) (λ t. t.stop)
         (λ x. x) ended step Standing standing_stays
         walk_runs (tell_of m) said_of said_same c x refl i
 
@@ -180,22 +181,22 @@ module _ (s tw : List ℕ) (g : Grounds s tw) where
         both h (chain_said c j) ∙ sym (map-append reverse (tell t) (chained.told tell c))
 
     -- the chain over the choices that a chain of public turns is
-    pub record Run (x : walks.Walk) {y : Walk} {B K : ℕ} {r : WalkTurn} (c : WalkTurns s tw left y B K r) : Type 0 where
+    pub record Run (x : walks.Walk) {y : Walk} {B K : ℕ} {r : Turn Walk} (c : WalkTurns s tw left y B K r) : Type 0 where
       pub last : Turned walks.Walk
       pub count : ℕ
       pub chain : telling.WalkTurns ch x B count last
       pub count_same : K ≡ count
       pub stop_same : r.stop ≡ stop_of last.halt
-      pub standing : Standing r.walk
+      pub standing : Standing r.state
       pub told_same : chained.told (tell_of m) c ≡ map reverse (chained.told tell chain)
       pub each_same : AllButLast (λ u. u.stop ≡ Stop.Budget) c → AllButLast (λ u. stop_of u.halt ≡ Stop.Budget) chain
 
-    walk_run_law : {y : Walk} {B K : ℕ} {r : WalkTurn} (c : WalkTurns s tw left y B K r) (i : Standing y) → Run i.walk c
+    walk_run_law : {y : Walk} {B K : ℕ} {r : Turn Walk} (c : WalkTurns s tw left y B K r) (i : Standing y) → Run i.state c
     walk_run_law {y} {B} {K} {r} c i =
         let a = ran c i in
         let b = chain_mirrored (shown n) OnWay walk_done (walk_step ch) ended step mirror said_of (λ u. stop_of u.halt ≡ Stop.Budget)
         a.chain
-        i.walk i.same i.way in
+        i.state i.same i.way in
         record {
           last = b.last;
           count = b.count;
@@ -203,7 +204,7 @@ module _ (s tw : List ℕ) (g : Grounds s tw) where
           count_same = a.count_same ∙ b.count_same;
           stop_same = a.back.stop_same ∙ ap (λ (t : Turned Walk). stop_of t.halt) b.last_same;
           standing = record {
-            walk = a.kept.walk;
+            state = a.kept.state;
             same = a.back.state_same ∙ a.kept.same;
             way = a.kept.way;
           };
@@ -223,7 +224,7 @@ module _ (s tw : List ℕ) (g : Grounds s tw) where
 
     fresh_standing : Standing fresh
     fresh_standing = record {
-      walk = first;
+      state = first;
       same = fresh_same;
       way = record { way = fresh_way ch m (m - 1) (omega (arith, g.twig.some)); least = unfold parent_of image_of in omega arith };
     }
@@ -233,15 +234,15 @@ module _ (s tw : List ℕ) (g : Grounds s tw) where
     way_standing (handed c) = (walk_run_law c fresh_standing).standing
 
     -- every chain of public turns from the fresh walk
-    pub fresh_run : {B K : ℕ} {r : WalkTurn} (c : WalkTurns s tw left fresh B K r) → Run first c
+    pub fresh_run : {B K : ℕ} {r : Turn Walk} (c : WalkTurns s tw left fresh B K r) → Run first c
     unfolding fresh_standing
     fresh_run c = walk_run_law c fresh_standing
 
     -- every chain of public turns from a walk on the way
-    pub record Onward {y : Walk} {B K : ℕ} {r : WalkTurn} (c : WalkTurns s tw left y B K r) : Type 0 where
+    pub record Onward {y : Walk} {B K : ℕ} {r : Turn Walk} (c : WalkTurns s tw left y B K r) : Type 0 where
       pub from : walks.Walk
       pub way : potential.OnTheWay ch m from
       pub run : Run from c
 
-    pub way_run : {y : Walk} {B K : ℕ} {r : WalkTurn} (c : WalkTurns s tw left y B K r) → OnTheWay s tw left y → Onward c
-    way_run c i = let x = way_standing i in record { from = x.walk; way = x.way.way; run = walk_run_law c x }
+    pub way_run : {y : Walk} {B K : ℕ} {r : Turn Walk} (c : WalkTurns s tw left y B K r) → OnTheWay s tw left y → Onward c
+    way_run c i = let x = way_standing i in record { from = x.state; way = x.way.way; run = walk_run_law c x }

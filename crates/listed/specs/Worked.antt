@@ -25,7 +25,6 @@ use Rattle.checking.specs.Rule as check
 use Rattle.checking.specs.Turn.{turn_within}
 use Rattle.terms.specs.Length.{length_fault}
 use Rattle.walk_ranges.specs.declared.Phase.{Phase}
-use Rattle.walking.specs.declared.WalkTurn.{WalkTurn}
 use Rattle.preparing.specs.Masks.{every, has_bit, can}
 use Rattle.twig_turns.specs.Given.{given_of, ready_for, begun_for}
 use Rattle.preparing.specs.PrepTurn.{prep_at}
@@ -43,6 +42,8 @@ use Rattle.checked.specs.Menus.{ten, five, tarts, fork, ones, pair}
 use Rattle.listed.specs.Cases.{walk_handed, five_accepted, four_accepted, ten_accepted}
 use Rattle.listed.specs.Cases.{five_table, four_table, ten_table, lent_for, cleared_for}
 use Rattle.listed.specs.Cases.{five_start, five_turns, five_prepared_law, four_prepared, ten_prepared}
+use Rattle.terms.specs.declared.Turn.{Turn}
+use Rattle.walking.specs.declared.Walk.{Walk}
 
 -- ---- preparing
 
@@ -66,8 +67,8 @@ five_not p =
 -- ---- walking
 
 -- a walk that has ended on a tree of n entries, after k steps of its last turn
-abbrev over : ℕ → ℕ → WalkTurn
-over n k = record { walk = at (replicate 16 0) 1 (n + 1) Phase.Ended; steps = k; stop = Stop.End }
+abbrev over : ℕ → ℕ → Turn Walk
+over n k = record { state = at (replicate 16 0) 1 (n + 1) Phase.Ended; steps = k; stop = Stop.End }
 
 pub five_chain : WalkTurns five pair five_table fresh 63 14 (over 5 4)
 unfolding begun_for ready_for given_of turn_within length_fault check.in_range run check.step_of check.close_of check.nameless check.second_root
@@ -111,8 +112,8 @@ five_map =
 -- ---- the limit: 2×m×n+1 = 21 steps from the start, and from an answer
 
 -- at the first answer, after k steps of a turn
-abbrev first_answer : ℕ → WalkTurn
-first_answer k = record { walk = at (1 ∷ 2 ∷ replicate 14 0) 2 2 Phase.Answer; steps = k; stop = Stop.Answer }
+abbrev first_answer : ℕ → Turn Walk
+first_answer k = record { state = at (1 ∷ 2 ∷ replicate 14 0) 2 2 Phase.Answer; steps = k; stop = Stop.Answer }
 
 -- two turns from the start to the first answer, and two from there to the second
 pub five_start_chain : WalkTurns five pair five_table fresh 22 2 (first_answer 1)
@@ -125,8 +126,8 @@ pub five_from_start : Within five pair 22 2 (first_answer 1)
 unfolding five_start_chain
 five_from_start = walk_within_law five pair five_accepted five_table five_prepared_law start five_start_chain (refl, tt)
 
-pub five_next_chain : WalkTurns five pair five_table (first_answer 1).walk 21 1
-    (record { walk = at (1 ∷ 3 ∷ replicate 14 0) 2 3 Phase.Answer; steps = 1; stop = Stop.Answer })
+pub five_next_chain : WalkTurns five pair five_table (first_answer 1).state 21 1
+    (record { state = at (1 ∷ 3 ∷ replicate 14 0) 2 3 Phase.Answer; steps = 1; stop = Stop.Answer })
 unfolding begun_for ready_for given_of turn_within length_fault check.in_range run check.step_of check.close_of check.nameless check.second_root
     check.accepted cell
     every has_bit image place image_fits phase_fits in_range end_of bad_end back found walk_on step_of

@@ -2,7 +2,7 @@
 --   Question b        b is bytes, not too long, and neither of its lists is refused
 --   question_accepted  the whole check accepts both signatures
 --   table_prepared    start call and one turn of preparing come to the end
-use Rattle.std.specs.Prelude.{ℕ, ◌+◌, ◌*◌, ◌≤◌, ◌<◌, ◌≡◌, ◌⊎◌, Bool, true, false, List, length, drop, replicate}
+use Rattle.std.specs.Prelude.{ℕ, ◌+◌, ◌*◌, ◌≤◌, ◌<◌, ◌≡◌, ◌⊎◌, Bool, true, false, List, length, drop, replicate, Ok}
 use Rattle.std.proofs.Math.Path.{refl}
 use Rattle.std.proofs.Common.{sym, subst, inl, inr, arith, get_or-drop, ne_eqb, le-leb}
 use Rattle.turns.specs.Turn.{Turned}
@@ -17,7 +17,6 @@ use Rattle.bytes_read.specs.Scans.{halt_number}
 use Rattle.tag_scan.specs.TagLists.{tree_scan, numbers_in}
 use Rattle.retold.specs.Taken.{Bytes}
 use Rattle.retold.specs.Sound.{scan_sound}
-use Rattle.preparing.specs.declared.Started.{Started}
 use Rattle.twig_turns.specs.Given.{table_width}
 use Rattle.twig_turns.specs.Grounds.{Accepted, accepted_grounds}
 use Rattle.preparing.specs.Preparing.{Preparing}
@@ -72,7 +71,7 @@ module _ (s tw : List ℕ) (accepted : Accepted s tw) where
   abbrev begun : List ℕ
   begun = cleared (table_width * entries s) lent
 
-  start : StartPromise (entries s) lent (Started.Fresh (prep_at (entries s))) begun
+  start : StartPromise (entries s) lent (Ok (prep_at (entries s))) begun
   start = record { answer = rw fine refl; leaves = rw fine refl }
 
   abbrev turn : Turned Preparing

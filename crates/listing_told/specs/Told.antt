@@ -9,7 +9,6 @@ use borrow.Author.Tests.{eq-eqb, le-ltb}
 use Rattle.trees.specs.Signature.{entries}
 use Rattle.terms.specs.declared.Stop.{Stop}
 use Rattle.twig_turns.specs.Grounds.{Accepted}
-use Rattle.walking.specs.declared.WalkTurn.{WalkTurn}
 use Rattle.walking.specs.Walking.{fresh}
 use Rattle.listed.specs.Questions.{Prepared, WalkTurns, start}
 use Rattle.listed.specs.Exactly.{all_loose, Listed, loose_exactly}
@@ -18,6 +17,8 @@ use Rattle.lines.specs.Question.{walk_budget, most_answers, table_of, lines_from
 use Rattle.lines.specs.Listing.{most_bytes, data_fault, data_of, rest_of, twig_fault, twig_of, after_data, listing}
 use Rattle.listing_told.specs.Ground.{Question, question_accepted, table_prepared}
 use Rattle.listing_told.specs.Walked.{answer_lines, answers, Lines, Stopped, Ended, walk_lines}
+use Rattle.terms.specs.declared.Turn.{Turn}
+use Rattle.walking.specs.declared.Walk.{Walk}
 
 module _ (b : List ℕ) where
   abbrev s : List ℕ
@@ -41,7 +42,7 @@ module _ (b : List ℕ) where
     pub prepared : Prepared s tw table
     pub budgets : ℕ
     pub steps : ℕ
-    pub last : WalkTurn
+    pub last : Turn Walk
     pub turns : WalkTurns s tw table fresh budgets steps last
     pub ended : last.stop ≡ Stop.End
     -- a turn for each answer and one to the end, each within its budget

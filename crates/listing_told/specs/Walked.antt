@@ -17,7 +17,6 @@ use Rattle.terms.specs.declared.Stop.{Stop}
 use Rattle.checked.specs.Wholly.{accepted_tree}
 use Rattle.twig_turns.specs.Grounds.{Accepted}
 use Rattle.walking.specs.declared.Walk.{Walk}
-use Rattle.walking.specs.declared.WalkTurn.{WalkTurn}
 use Rattle.walking.specs.WalkTurn.{WalkPromise}
 use Rattle.listed.specs.Questions as questions
 use Rattle.listed.specs.Questions.{Prepared, WalkTurns, tell_of, OnTheWay, start, handed}
@@ -26,6 +25,7 @@ use Rattle.listed.specs.Cases.{walk_back, walk_handed}
 use Rattle.lines.specs.Lines.{answer_line, end_line, more_line}
 use Rattle.lines.specs.Question.{walk_budget, turn_of, lines_from}
 use Rattle.lines.proofs.Turns.{steps_most, lines_answer, lines_end, lines_none}
+use Rattle.terms.specs.declared.Turn.{Turn}
 
 -- the lines of answers
 unfoldable pub answer_lines : List (List ℕ) → List ℕ
@@ -34,26 +34,26 @@ answer_lines (z ∷ l) = answer_line z ++ answer_lines l
 
 module _ (s tw table : List ℕ) where
   -- one turn more
-  longer : {w : Walk} {B K : ℕ} {r : WalkTurn} → WalkTurns s tw table w B K r → (b : ℕ) (t : WalkTurn)
-      → WalkPromise s tw table b r.walk t → (C : ℕ) × (J : ℕ) × WalkTurns s tw table w C J t
+  longer : {w : Walk} {B K : ℕ} {r : Turn Walk} → WalkTurns s tw table w B K r → (b : ℕ) (t : Turn Walk)
+      → WalkPromise s tw table b r.state t → (C : ℕ) × (J : ℕ) × WalkTurns s tw table w C J t
   longer (one {b = a} {r = r} p) b t q = (a + b, r.steps + t.steps, more p (one q))
   longer (more {b = a} {r = r} p c) b t q = let x = longer c b t q in (a + x.0, r.steps + x.1, more p x.2)
 
-  on_way : {w : Walk} → OnTheWay s tw table w → (b : ℕ) (t : WalkTurn) → WalkPromise s tw table b w t → OnTheWay s tw table t.walk
+  on_way : {w : Walk} → OnTheWay s tw table w → (b : ℕ) (t : Turn Walk) → WalkPromise s tw table b w t → OnTheWay s tw table t.state
   on_way start b t q = handed (one {b = b} q)
   on_way (handed c) b t q = handed (longer c b t q).2
 
   -- what the turns of a chain told
-  abbrev pub answers : {w : Walk} {B K : ℕ} {r : WalkTurn} → WalkTurns s tw table w B K r → List (List ℕ)
+  abbrev pub answers : {w : Walk} {B K : ℕ} {r : Turn Walk} → WalkTurns s tw table w B K r → List (List ℕ)
   answers c = told (tell_of (entries tw)) c
 
   -- all answers that may be printed, and `more`
-  pub record Stopped (left count steps : ℕ) (w : Walk) {B K : ℕ} {r : WalkTurn} (c : WalkTurns s tw table w B K r) : Type 0 where
+  pub record Stopped (left count steps : ℕ) (w : Walk) {B K : ℕ} {r : Turn Walk} (c : WalkTurns s tw table w B K r) : Type 0 where
     pub many : length (answers c) ≡ left
     pub lines : lines_from s tw table left count steps w ≡ answer_lines (answers c) ++ more_line
 
   -- fewer, and the end
-  pub record Ended (left count steps : ℕ) (w : Walk) {B K : ℕ} {r : WalkTurn} (c : WalkTurns s tw table w B K r) : Type 0 where
+  pub record Ended (left count steps : ℕ) (w : Walk) {B K : ℕ} {r : Turn Walk} (c : WalkTurns s tw table w B K r) : Type 0 where
     pub stop : r.stop ≡ Stop.End
     pub few : length (answers c) < left
     pub lines : lines_from s tw table left count steps w
@@ -63,7 +63,7 @@ module _ (s tw table : List ℕ) where
   pub record Lines (left count steps : ℕ) (w : Walk) : Type 0 where
     pub budgets : ℕ
     pub took : ℕ
-    pub last : WalkTurn
+    pub last : Turn Walk
     pub turns : WalkTurns s tw table w budgets took last
     pub within : took ≤ left * walk_budget
     pub came : Stopped left count steps w turns ⊎ Ended left count steps w turns
@@ -80,7 +80,7 @@ module _ (s tw table : List ℕ) where
         small m n h l = let k : m * n ≤ 16 * 4096 = mul-le-mul h l in omega arith
 
     module _ (count steps : ℕ) (w : Walk) (way : OnTheWay s tw table w) where
-      abbrev r : WalkTurn
+      abbrev r : Turn Walk
       r = walk_back (turn_of s tw table w)
 
       p : WalkPromise s tw table walk_budget w r
@@ -97,7 +97,7 @@ module _ (s tw table : List ℕ) where
       at_end_law : (left : ℕ) → r.stop ≡ Stop.End → Lines (suc left) count steps w
       unfolding told answer_lines
       at_end_law left q =
-          let n : answers (one {b = walk_budget} p) ≡ [] = ap (λ (x : Stop). questions.told x (take (entries tw) r.walk.images)) q in
+          let n : answers (one {b = walk_budget} p) ≡ [] = ap (λ (x : Stop). questions.told x (take (entries tw) r.state.images)) q in
           record {
             budgets = walk_budget;
             took = r.steps;
@@ -116,9 +116,9 @@ module _ (s tw table : List ℕ) where
       at_last : r.stop ≡ Stop.Answer → Lines 1 count steps w
       unfolding told answer_lines
       at_last q =
-          let n : answers (one {b = walk_budget} p) ≡ take (entries tw) r.walk.images ∷ []
-          = ap (λ (x : Stop). questions.told x (take (entries tw) r.walk.images)) q in
-          let z = take (entries tw) r.walk.images in
+          let n : answers (one {b = walk_budget} p) ≡ take (entries tw) r.state.images ∷ []
+          = ap (λ (x : Stop). questions.told x (take (entries tw) r.state.images)) q in
+          let z = take (entries tw) r.state.images in
           record {
             budgets = walk_budget;
             took = r.steps;
@@ -128,14 +128,14 @@ module _ (s tw table : List ℕ) where
             came = inl (record {
               many = ap length n;
               lines = lines_answer s tw table 0 count steps w r p q
-                  ∙ ap (λ (l : List ℕ). answer_line z ++ l) (lines_none s tw table (count + 1) (steps + r.steps) r.walk)
+                  ∙ ap (λ (l : List ℕ). answer_line z ++ l) (lines_none s tw table (count + 1) (steps + r.steps) r.state)
                   ∙ sym (append_assoc (answer_line z) [] more_line)
                   ∙ ap (λ (l : List (List ℕ)). answer_lines l ++ more_line) (sym n);
             });
           }
 
       -- and to one before others
-      onward : (left : ℕ) → r.stop ≡ Stop.Answer → Lines left (count + 1) (steps + r.steps) r.walk → Lines (suc left) count steps w
+      onward : (left : ℕ) → r.stop ≡ Stop.Answer → Lines left (count + 1) (steps + r.steps) r.state → Lines (suc left) count steps w
       unfolding told answer_lines
       onward left q x = record {
         budgets = walk_budget + x.budgets;
@@ -147,12 +147,12 @@ module _ (s tw table : List ℕ) where
       }
         where
           z : List ℕ
-          z = take (entries tw) r.walk.images
+          z = take (entries tw) r.state.images
 
           n : answers (more {b = walk_budget} {r = r} p x.turns) ≡ z ∷ answers x.turns
           n = ap (λ (y : Stop). questions.told y z ++ answers x.turns) q
 
-          first : (l : List ℕ) → lines_from s tw table left (count + 1) (steps + r.steps) r.walk ≡ answer_lines (answers x.turns) ++ l
+          first : (l : List ℕ) → lines_from s tw table left (count + 1) (steps + r.steps) r.state ≡ answer_lines (answers x.turns) ++ l
               → lines_from s tw table (suc left) count steps w ≡ answer_lines (answers (more {b = walk_budget} {r = r} p x.turns)) ++ l
           first l e =
               lines_answer s tw table left count steps w r p q
@@ -160,7 +160,7 @@ module _ (s tw table : List ℕ) where
               ∙ sym (append_assoc (answer_line z) (answer_lines (answers x.turns)) l)
               ∙ ap (λ (y : List (List ℕ)). answer_lines y ++ l) (sym n)
 
-          by : Stopped left (count + 1) (steps + r.steps) r.walk x.turns ⊎ Ended left (count + 1) (steps + r.steps) r.walk x.turns
+          by : Stopped left (count + 1) (steps + r.steps) r.state x.turns ⊎ Ended left (count + 1) (steps + r.steps) r.state x.turns
               → Stopped (suc left) count steps w (more {b = walk_budget} {r = r} p x.turns)
               ⊎ Ended (suc left) count steps w (more {b = walk_budget} {r = r} p x.turns)
           by (inl y) = inl (record { many = ap length n ∙ ap suc y.many; lines = first more_line y.lines })
@@ -193,6 +193,6 @@ module _ (s tw table : List ℕ) where
             → Lines (suc (suc left)) count steps w
         by (inl q) ih =
             onward count steps w i (suc left) q
-            (ih (walk_back (turn_of s tw table w)).walk
+            (ih (walk_back (turn_of s tw table w)).state
             (on_way i walk_budget (walk_back (turn_of s tw table w)) (walk_handed (turn_of s tw table w))))
         by (inr q) ih = at_end_law count steps w i (suc left) q

@@ -6,7 +6,7 @@
 --   stops_before_the_fault  a turn refused at a step stands before that step, and its budget would have paid for it
 --   cut_anywhere, cut_kept  a turn of a + b steps is one of a and then one of b, unless it stopped
 --   count_unique           no two counts join the same two states
-use Rattle.std.specs.Prelude.{ℕ, ◌+◌, ◌-◌, ◌*◌, ◌≤◌, ◌<◌, refl, List, Bool, length, eqb}
+use Rattle.std.specs.Prelude.{ℕ, ◌+◌, ◌-◌, ◌*◌, ◌≤◌, ◌<◌, refl, List, Bool, length, eqb, Ok, Err}
 use Rattle.std.proofs.Math.Path.{◌≡◌}
 use Rattle.std.proofs.Common.{ap, ◌∙◌, sym, subst, le-leb, leb-true, ne_eqb}
 use Rattle.std.proofs.Math.Bool.{true, false}
@@ -24,13 +24,12 @@ use Rattle.terms.specs.declared.Refusal.{Refusal}
 use Rattle.terms.specs.Stops.{halt_told}
 use Rattle.checked.specs.Apart.{halt_of, halt_of_law, told_apart, told_halt, halt_told_law}
 use Rattle.preparing.specs.declared.Prep.{Prep}
-use Rattle.preparing.specs.declared.PrepTurn.{PrepTurn}
-use Rattle.preparing.specs.declared.Started.{Started}
 use Rattle.twig_turns.specs.Given.{given_of, begun, refused_for, table_width}
 use Rattle.preparing.specs.Preparing.{Preparing, prepared, prep_step, bad_parent, step_table}
-use Rattle.preparing.specs.PrepTurn.{cleared, start_fault, start_told, Fresh, StartPromise, preparing, prep_in_range, prep_run, prep_turn_of, PrepHanded, PrepPromise}
+use Rattle.preparing.specs.PrepTurn.{cleared, start_fault, start_told, Fresh, StartPromise, preparing, prep_in_range, prep_run, prep_turn_of, PrepHanded, PrepPromise, Started}
 use Rattle.twig_turns.proofs.Judged.{begun_early, begun_run, begun_judged}
 use Rattle.preparing.proofs.PrepCases.{table_length, start_empty}
+use Rattle.terms.specs.declared.Turn.{Turn}
 
 -- the twig or the signature's length refuses
 pub early : {S : Type 0} (sig twig : List ℕ) (room : ℕ) (st : S) (fits : Bool) (run : Turned S) → ((given_of sig twig).reason ≡ 1 → ⊥)
@@ -40,10 +39,10 @@ early sig twig room st fits run h = begun_early (table_width * entries sig) sig 
 -- ---- the code's answers and the turn that they tell
 
 -- what was handed back, as a turn of the rule
-abbrev pub turned_of : PrepTurn → List ℕ → Turned Preparing
+abbrev pub turned_of : Turn Prep → List ℕ → Turned Preparing
 turned_of r left = record { state = preparing r.state left; steps = r.steps; halt = halt_of r.stop }
 
-pub handed_turned : (r : PrepTurn) (left : List ℕ) (t : Turned Preparing) → PrepHanded r left t → turned_of r left ≡ t
+pub handed_turned : (r : Turn Prep) (left : List ℕ) (t : Turned Preparing) → PrepHanded r left t → turned_of r left ≡ t
 handed_turned r left t h =
     let a = ap (λ (p : Prep). p.next.0) h.state in
     let b = h.steps in
@@ -53,7 +52,7 @@ handed_turned r left t h =
 
 -- ---- one result
 
-pub one_result : (sig twig table : List ℕ) (b : ℕ) (st : Prep) (r q : PrepTurn) (l k : List ℕ)
+pub one_result : (sig twig table : List ℕ) (b : ℕ) (st : Prep) (r q : Turn Prep) (l k : List ℕ)
     → PrepPromise sig twig table b st r l → PrepPromise sig twig table b st q k → (r ≡ q) × (l ≡ k)
 one_result sig twig table b st r q l k p o =
     let x = p.state ∙ sym o.state in
@@ -66,13 +65,13 @@ module _ (n : ℕ) (table : List ℕ) where
   some_fresh e z = omega (arith, start_empty n (length table) z, e)
 
   same_start : (r q : Started) → start_told r ≡ start_told q → ((start_told r).number ≡ 0 → (start_told r).next ≡ 0 → ⊥) → r ≡ q
-  same_start (Started.Fresh a) (Started.Fresh c) e n = let x = ap (λ (f : Fresh). f.next) e in λ i. Started.Fresh (record { next = record { 0 = x i } })
-  same_start (Started.Refused a) (Started.Refused c) e n =
+  same_start (Ok a) (Ok c) e n = let x = ap (λ (f : Fresh). f.next) e in λ i. Ok (record { next = record { 0 = x i } })
+  same_start (Err a) (Err c) e n =
       let x = ap (λ (f : Fresh). f.number) e in
       let y = ap (λ (f : Fresh). f.entry) e in
-      λ i. Started.Refused (record { number = x i; entry = record { 0 = y i } })
-  same_start (Started.Fresh a) (Started.Refused c) e n = absurd (n refl (ap (λ (f : Fresh). f.next) e))
-  same_start (Started.Refused a) (Started.Fresh c) e n = absurd (n (ap (λ (f : Fresh). f.number) e) refl)
+      λ i. Err (record { number = x i; entry = record { 0 = y i } })
+  same_start (Ok a) (Err c) e n = absurd (n refl (ap (λ (f : Fresh). f.next) e))
+  same_start (Err a) (Ok c) e n = absurd (n (ap (λ (f : Fresh). f.number) e) refl)
 
   started : (r : Started) (l : List ℕ) → StartPromise n table r l → (start_told r).number ≡ 0 → (start_told r).next ≡ 0 → ⊥
   started r l p a b =
@@ -84,7 +83,7 @@ module _ (n : ℕ) (table : List ℕ) where
   one_start r q l k p o = (same_start r q (p.answer ∙ sym o.answer) (started r l p), p.leaves ∙ sym o.leaves)
 
   -- a refused start call names its number, hands back no state and writes nothing
-  pub refused_writes_nothing : (x : Refusal) (l : List ℕ) → StartPromise n table (Started.Refused x) l
+  pub refused_writes_nothing : (x : Refusal) (l : List ℕ) → StartPromise n table (Err x) l
       → (l ≡ table) × (x.number ≡ start_fault n (length table)) × (x.entry.0 ≡ 0)
   refused_writes_nothing x l p = (p.leaves ∙ kept_whole (ℕ_discrete (start_fault n (length table)) 0), number, ap (λ (f : Fresh). f.entry) p.answer)
     where
@@ -94,7 +93,7 @@ module _ (n : ℕ) (table : List ℕ) where
       -- a refusal of number 0 would hand back a fresh state of 0 entries
       kept_whole : Dec (start_fault n (length table) ≡ 0)
           → pick (eqb (start_fault n (length table)) 0) (cleared (table_width * n) table) table ≡ table
-      kept_whole (yes h) = absurd (started (Started.Refused x) l p (number ∙ h) refl)
+      kept_whole (yes h) = absurd (started (Err x) l p (number ∙ h) refl)
       kept_whole (no h) = simp (ne_eqb _ _ h)
 
 module _ (sig twig : List ℕ) where
@@ -155,7 +154,7 @@ module _ (sig twig : List ℕ) where
 
   -- ---- one turn, from any state
 
-  module _ (table : List ℕ) (b : ℕ) (st : Prep) (r : PrepTurn) (left : List ℕ) (p : PrepPromise sig twig table b st r left) where
+  module _ (table : List ℕ) (b : ℕ) (st : Prep) (r : Turn Prep) (left : List ℕ) (p : PrepPromise sig twig table b st r left) where
     is : turned_of r left ≡ whole b (preparing st table)
     is = handed_turned r left (whole b (preparing st table)) p
 
@@ -182,10 +181,10 @@ module _ (sig twig : List ℕ) where
 
   -- ---- turns one after the other
 
-  module _ (a b : ℕ) (table : List ℕ) (st : Prep) (x r : PrepTurn) (mid left : List ℕ)
+  module _ (a b : ℕ) (table : List ℕ) (st : Prep) (x r : Turn Prep) (mid left : List ℕ)
       (p : PrepPromise sig twig table a st x mid) (o : PrepPromise sig twig table (a + b) st r left) where
     -- stopped by its budget, a turn of a steps and then one of b are the turn of a + b
-    pub cut_anywhere : (y : PrepTurn) (last : List ℕ) → x.stop ≡ Stop.Budget → PrepPromise sig twig mid b x.state y last
+    pub cut_anywhere : (y : Turn Prep) (last : List ℕ) → x.stop ≡ Stop.Budget → PrepPromise sig twig mid b x.state y last
         → turned_of r left ≡ Laws.after Preparing prepared step a (turned_of y last)
     cut_anywhere y last e q =
         is table (a + b) st r left o

@@ -20,18 +20,16 @@ use Rattle.terms.specs.Length.{length_fault}
 use Rattle.checked.specs.Menus.{single}
 use Rattle.checked.specs.Refusals.{OneOf, StepIn, turn_numbers}
 use Rattle.preparing.specs.declared.Prep.{Prep}
-use Rattle.preparing.specs.declared.PrepTurn.{PrepTurn}
-use Rattle.preparing.specs.declared.Started.{Started}
 use Rattle.preparing.specs.Masks.{can, has_bit, every}
 use Rattle.twig_turns.specs.Refusals.{turn_refusals, RoomTen, begun_numbers, begun_ten}
 use Rattle.twig_turns.specs.Given.{table_width, given_of}
 use Rattle.preparing.specs.Preparing.{Preparing, prepared, bad_parent, prep_step}
-use Rattle.preparing.specs.PrepTurn.{start_fault, start_told, StartPromise, prep_at, preparing, prep_in_range, prep_run, prep_turn_of, PrepPromise}
+use Rattle.preparing.specs.PrepTurn.{start_fault, start_told, StartPromise, prep_at, preparing, prep_in_range, prep_run, prep_turn_of, PrepPromise, Started}
 use Rattle.walk_ranges.specs.Ranges.{image, image_fits, phase_fits}
 use Rattle.walking.specs.declared.Walk.{Walk}
-use Rattle.walking.specs.declared.WalkTurn.{WalkTurn}
 use Rattle.walking.specs.Walking.{fresh, in_range, ended, bad_end, end_of, back, found, readied, walk_on, step_of}
 use Rattle.walking.specs.WalkTurn.{walk_fits, walk_run, walk_turn_of, WalkPromise}
+use Rattle.terms.specs.declared.Turn.{Turn}
 
 -- ---- the start call
 
@@ -82,7 +80,7 @@ module _ (sig twig : List ℕ) where
       ↔ TableTen sig twig (prep_in_range (entries sig) st) (length st.table)
   prepare_ten b st = begun_ten (table_width * entries sig) sig twig (length st.table) st (prep_in_range (entries sig) st) (prep_run sig twig b st) (prep_steps b st)
 
-  pub prepare_ten_exactly : (table : List ℕ) (b : ℕ) (st : Prep) (r : PrepTurn) (left : List ℕ) → PrepPromise sig twig table b st r left
+  pub prepare_ten_exactly : (table : List ℕ) (b : ℕ) (st : Prep) (r : Turn Prep) (left : List ℕ) → PrepPromise sig twig table b st r left
       → ((told r.stop).number ≡ 10) ↔ TableTen sig twig (prep_in_range (entries sig) (preparing st table)) (length table)
   prepare_ten_exactly table b st r left p = rw p.stop (prepare_ten b (preparing st table))
 
@@ -116,7 +114,7 @@ module _ (sig twig table : List ℕ) (b : ℕ) (w : Walk) where
   pub walk_ten : ((halt_told (walk_turn_of sig twig table b w).halt).number ≡ 10) ↔ TableTen sig twig (walk_fits sig twig w) (length table)
   walk_ten = begun_ten (table_width * entries sig) sig twig (length table) w (walk_fits sig twig w) (walk_run sig twig table b w) walk_steps
 
-  pub walk_ten_exactly : (r : WalkTurn) → WalkPromise sig twig table b w r
+  pub walk_ten_exactly : (r : Turn Walk) → WalkPromise sig twig table b w r
       → ((told r.stop).number ≡ 10) ↔ TableTen sig twig (walk_fits sig twig w) (length table)
   walk_ten_exactly r p = rw p.stop walk_ten
 
@@ -133,8 +131,8 @@ single_fresh = refl
 pub single_start : (r : Started) (left : List ℕ) → StartPromise 1 (0 ∷ []) r left → (start_told r).number ≡ 10
 single_start r left p = (start_ten_exactly 1 (0 ∷ []) r left p).1 (omega arith, omega arith, omega arith)
 
-pub single_prepare : (b : ℕ) (r : PrepTurn) (left : List ℕ) → PrepPromise single single (0 ∷ []) b (prep_at 1) r left → (told r.stop).number ≡ 10
+pub single_prepare : (b : ℕ) (r : Turn Prep) (left : List ℕ) → PrepPromise single single (0 ∷ []) b (prep_at 1) r left → (told r.stop).number ≡ 10
 single_prepare b r left p = (prepare_ten_exactly single single (0 ∷ []) b (prep_at 1) r left p).1 (single_given, refl, omega arith)
 
-pub single_walk : (b : ℕ) (r : WalkTurn) → WalkPromise single single (0 ∷ []) b fresh r → (told r.stop).number ≡ 10
+pub single_walk : (b : ℕ) (r : Turn Walk) → WalkPromise single single (0 ∷ []) b fresh r → (told r.stop).number ≡ 10
 single_walk b r p = (walk_ten_exactly single single (0 ∷ []) b fresh r p).1 (single_given, single_fresh, omega arith)

@@ -14,39 +14,39 @@ use Rattle.turns.specs.Judging as Judging
 use Rattle.trees.specs.Signature.{Entries, entries_of, width, entries}
 use Rattle.terms.specs.declared.Stop.{Stop}
 use Rattle.terms.specs.declared.Refusal.{Refusal}
-use Rattle.terms.specs.Stops.{halt_told}
+use Rattle.terms.specs.Stops.{halt_told, Handed}
 use Rattle.checked.specs.Apart.{halt_of, halt_of_law, told_apart, told_halt, halt_told_law}
 use Rattle.walking.specs.declared.Walk.{Walk}
-use Rattle.walking.specs.declared.WalkTurn.{WalkTurn}
 use Rattle.preparing.specs.Masks.{can}
 use Rattle.twig_turns.specs.Given.{given_of, table_width}
 use Rattle.walking.specs.Kept.{Ranges}
 use Rattle.walking.specs.Walking.{step_of, ended}
-use Rattle.walking.specs.WalkTurn.{walk_run, walk_fits, walk_turn_of, WalkHanded, WalkPromise}
+use Rattle.walking.specs.WalkTurn.{walk_run, walk_fits, walk_turn_of, WalkPromise}
 use Rattle.twig_turns.proofs.Judged.{given_twig, begun_run, begun_judged}
 use Rattle.walking.proofs.Parents.{given_parents}
 use Rattle.walking.proofs.WalkRanges.{range_facts, range_yes}
 use Rattle.walking.proofs.WalkSteps.{step_moved, step_answered}
 use Rattle.loose_turns.specs.Trails.{Less, less_trans, less_apart, trail, progress}
+use Rattle.terms.specs.declared.Turn.{Turn}
 
 -- what was handed back, as a turn of the rule
-abbrev pub turned_of : WalkTurn → Turned Walk
-turned_of r = record { state = r.walk; steps = r.steps; halt = halt_of r.stop }
+abbrev pub turned_of : Turn Walk → Turned Walk
+turned_of r = record { state = r.state; steps = r.steps; halt = halt_of r.stop }
 
-pub handed_turned : (r : WalkTurn) (t : Turned Walk) → WalkHanded r t → turned_of r ≡ t
+pub handed_turned : (r : Turn Walk) (t : Turned Walk) → Handed r t → turned_of r ≡ t
 handed_turned r t h =
-    let a = h.walk in
+    let a = h.state in
     let b = h.steps in
     let c = halt_told_law (halt_of r.stop) t.halt (sym (halt_of_law r.stop) ∙ h.stop) in
     λ i. record { state = a i; steps = b i; halt = c i }
 
-pub one_result : (sig twig table : List ℕ) (b : ℕ) (w : Walk) (r q : WalkTurn)
+pub one_result : (sig twig table : List ℕ) (b : ℕ) (w : Walk) (r q : Turn Walk)
     → WalkPromise sig twig table b w r → WalkPromise sig twig table b w q → r ≡ q
 one_result sig twig table b w r q p o =
-    let x = p.walk ∙ sym o.walk in
+    let x = p.state ∙ sym o.state in
     let y = p.steps ∙ sym o.steps in
     let z = told_apart r.stop q.stop (p.stop ∙ sym o.stop) in
-    λ i. record { walk = x i; steps = y i; stop = z i }
+    λ i. record { state = x i; steps = y i; stop = z i }
 
 module _ (sig twig table : List ℕ) where
   abbrev t : Entries
@@ -93,17 +93,17 @@ module _ (sig twig table : List ℕ) where
 
   -- ---- one turn, from any walk
 
-  module _ (b : ℕ) (w : Walk) (full : length w.images ≡ 16) (r : WalkTurn) (p : WalkPromise sig twig table b w r) where
+  module _ (b : ℕ) (w : Walk) (full : length w.images ≡ 16) (r : Turn Walk) (p : WalkPromise sig twig table b w r) where
     is : turned_of r ≡ whole b w
     is = handed_turned r (whole b w) p
 
-    pub step_as_written : Steps Walk ended step r.steps w r.walk
+    pub step_as_written : Steps Walk ended step r.steps w r.state
     step_as_written =
         subst (λ (t : Turned Walk). Steps Walk ended step t.steps w t.state) (sym is)
         (Judging.counted Walk ended step whole Good run_is kept b w (judged w full))
 
     -- in range before, in range after; a turn refused before any step hands the walk back as it was given
-    pub handed_back_in_range : walk_fits sig twig w ≡ true → walk_fits sig twig r.walk ≡ true
+    pub handed_back_in_range : walk_fits sig twig w ≡ true → walk_fits sig twig r.state ≡ true
     handed_back_in_range l = subst (λ (t : Turned Walk). walk_fits sig twig t.state ≡ true) (sym is) (go (judged w full))
       where
         go : Judging.Judged Walk ended step whole Good w → walk_fits sig twig (whole b w).state ≡ true
@@ -119,21 +119,21 @@ module _ (sig twig table : List ℕ) where
 
   -- ---- turns one after the other
 
-  module _ (a b : ℕ) (w : Walk) (full : length w.images ≡ 16) (x r : WalkTurn) (p : WalkPromise sig twig table a w x) (o : WalkPromise sig twig table (a + b) w r) where
+  module _ (a b : ℕ) (w : Walk) (full : length w.images ≡ 16) (x r : Turn Walk) (p : WalkPromise sig twig table a w x) (o : WalkPromise sig twig table (a + b) w r) where
     -- stopped by its budget, a turn of a steps and then one of b are the turn of a + b
-    pub cut_anywhere : (y : WalkTurn) → x.stop ≡ Stop.Budget → WalkPromise sig twig table b x.walk y
+    pub cut_anywhere : (y : Turn Walk) → x.stop ≡ Stop.Budget → WalkPromise sig twig table b x.state y
         → turned_of r ≡ Laws.after Walk ended step a (turned_of y)
     cut_anywhere y e q =
         is (a + b) w full r o
         ∙ Judging.cut Walk ended step whole Good run_is kept a b w (judged w full) (ap (λ (t : Turned Walk). t.halt) (sym (is a w full x p)) ∙ ap halt_of e)
         ∙ ap (λ (s : Walk). Laws.after Walk ended step a (whole b s)) (ap (λ (t : Turned Walk). t.state) (sym (is a w full x p)))
-        ∙ ap (Laws.after Walk ended step a) (sym (handed_turned y (whole b x.walk) q))
+        ∙ ap (Laws.after Walk ended step a) (sym (handed_turned y (whole b x.state) q))
 
     -- stopped by anything else, a larger budget changes nothing
     pub cut_kept : (x.stop ≡ Stop.Budget → ⊥) → r ≡ x
     cut_kept n =
         let q = Judging.larger Walk ended step whole Good run_is kept a b w (judged w full) (λ e. n (told_halt x.stop Halt.budget (p.stop ∙ ap halt_told e))) in
-        one_result sig twig table a w r x (subst (WalkHanded r) q o) p
+        one_result sig twig table a w r x (subst (Handed r) q o) p
 
   -- ---- counts
 

@@ -3,6 +3,7 @@
 --   within_…, room_…  which case of an answer holds
 --   leaves_as, refused_leaves   what an equal answer leaves; what a refusal leaves
 --   short_leaves, fits_leaves   what is left where the marked ranks are too many for the room, and where they fit
+use Rattle.std.specs.Prelude.{Ok, Err}
 use Prim.Native.Nat.{ℕ, ◌≤◌, ◌<◌}
 use native.Mathlib.Omega.{arith}
 use mathlib.Core.Path.{◌≡◌, refl, ap}
@@ -13,8 +14,7 @@ use lib.Dec.{leb}
 use borrow.Author.Tests.{le-leb, lt-leb, leb-true}
 use Rattle.trees.specs.Signature.{entries}
 use Rattle.terms.specs.declared.Refusal.{Refusal}
-use Rattle.terms.specs.declared.Written.{Written}
-use Rattle.terms.specs.Stops.{worked, refused_as}
+use Rattle.terms.specs.Stops.{worked, refused_as, Written}
 use Rattle.xpath.specs.Select.{rises, within}
 use Rattle.xpath.specs.SelectLaws.{front}
 use Rattle.terms.specs.Room.{room_for, written_left, refused_left, Left, Leaves}
@@ -73,14 +73,14 @@ pub leaves_as : (x y : Left) (r : Written) (after : List ℕ) → x ≡ y → Le
 leaves_as x y r after q h = rw q h
 
 pub refused_leaves : (room : List ℕ) (r : Refusal) (number : ℕ) → r.number ≡ number → r.entry.0 ≡ 0
-    → Leaves (refused_left room number 0) (Written.Refused r) room
+    → Leaves (refused_left room number 0) (Err r) room
 refused_leaves room r number p q = record { told = λ i. refused_as (p i) (q i); left = refl }
 
 -- ---- the ranks of a list written
 
 module _ (room answer : List ℕ) (count : ℕ) (q : count ≡ length answer) where
-  pub short_leaves : length room < count → (r : Refusal) → r.number ≡ 10 → r.entry.0 ≡ 0 → Leaves (room_for room answer) (Written.Refused r) room
+  pub short_leaves : length room < count → (r : Refusal) → r.number ≡ 10 → r.entry.0 ≡ 0 → Leaves (room_for room answer) (Err r) room
   short_leaves l r a b = leaves_as _ _ _ _ (room_short room answer (omega arith)) (refused_leaves room r 10 a b)
 
-  pub fits_leaves : count ≤ length room → (after : List ℕ) → after ≡ front answer room → Leaves (room_for room answer) (Written.Length count) after
+  pub fits_leaves : count ≤ length room → (after : List ℕ) → after ≡ front answer room → Leaves (room_for room answer) (Ok count) after
   fits_leaves l after e = leaves_as _ _ _ _ (room_enough room answer (omega arith)) (record { told = ap worked q; left = e })

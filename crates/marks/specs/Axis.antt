@@ -6,11 +6,11 @@
 use Rattle.std.specs.Prelude.{ℕ, List, Bool, ◌&&◌, leb}
 use Rattle.turns.specs.Pick.{pick}
 use Rattle.trees.specs.Signature.{entries_of, width, entries}
-use Rattle.terms.specs.declared.Written.{Written}
 use Rattle.terms.specs.Room.{Left, refused_left, room_for, Leaves}
 use Rattle.xpath.specs.Select.{rises, within}
 use Rattle.xpath.specs.Axes.{answer_of}
 use Rattle.blocks.specs.Checked.{after_check}
+use Rattle.terms.specs.Stops.{Written}
 
 -- parent and name are those of the signature's entries
 abbrev pub answer_in : List ℕ → List ℕ → ℕ → ℕ → ℕ → List ℕ

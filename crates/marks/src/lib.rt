@@ -11,7 +11,7 @@ ghost use Rattle.marks.specs.Axis.{arguments_fine};
 ghost use Rattle.marks.specs.Marks.{marked, lesser};
 
 use entries::entry_number;
-use terms::{NO_ROOM, PreRank, Refusal, Written};
+use terms::{Fault, PreRank, Refusal};
 
 // Whether the contexts are ranks of n entries, strictly ascending.
 fn is_ascending(n: u16, contexts: &[u16]) -> bool
@@ -106,14 +106,14 @@ fn refusal(number: u16) -> Refusal
 }
 
 // Writes those of the ranks 1 to n, and to 4,096 at most, that have a mark to the front of the room, or refuses a room that is too small.
-pub fn write_marked(n: u16, marks: &[u8; 4097], room: &mut [u16]) -> Written
+pub fn write_marked(n: u16, marks: &[u8; 4097], room: &mut [u16]) -> Result<usize, Refusal>
     ensures { Leaves (room_for room.old (up_to (lesser n 4096) (marked marks.now))) result room.new }
 {
     let last = least(n, 4096);
     let count = count_marks(last, marks);
     if room.len() < count {
-        return Written::Refused(refusal(NO_ROOM));
+        return Err(refusal(Fault::NoRoom));
     }
     write_marks(last, marks, room);
-    Written::Length(count)
+    Ok(count)
 }

@@ -10,7 +10,6 @@ use mathlib.Core.Path.{◌≡◌, refl, ap, ◌∙◌, sym, subst}
 use mathlib.Core.List.{List}
 use mathlib.Core.Bool.{Bool, true, false, ◌&&◌, ◌||◌, and-false, or-true, or-false}
 use Rattle.trees.specs.Names.{passes}
-use Rattle.terms.specs.declared.Written.{Written}
 use Rattle.xpath.specs.Select.{up_to, within}
 use Rattle.xpath.specs.SelectLaws.{up_same}
 use Rattle.xpath.specs.Rising.{within_at}
@@ -20,6 +19,7 @@ use Rattle.xpath.specs.SpreadUnion.{spread_same, spread_self, spread_below_or_se
 use Rattle.terms.specs.Room.{room_for, Leaves}
 use Rattle.marks.specs.Marks.{marked, Marks, lesser}
 use Rattle.marks.proofs.Marking.{lesser_first}
+use Rattle.terms.specs.Stops.{Written}
 
 module _ (a b : Bool) where
   pub first_no : a ≡ false → (a && b) ≡ false

@@ -20,7 +20,7 @@ use carried::{mark_above, mark_below, mark_following, mark_preceding};
 use checking::check_whole;
 use handed::{mark_children, mark_earlier, mark_later, mark_parents};
 use marks::{is_fine, is_named, write_marked};
-use terms::{BAD_ARGUMENT, Kind, PreRank, Refusal, Verdict, Written};
+use terms::{Fault, Kind, PreRank, Refusal};
 
 // Marks the contexts.
 fn mark_contexts(n: u16, contexts: &[u16], from: &mut [u8; 4097])
@@ -118,7 +118,7 @@ fn mark_union(sig: &[u16], n: u16, contexts: &[u16], axis: u16, test: u16, named
 }
 
 // What an axis call without a refused argument answers and leaves.
-fn select(sig: &[u16], n: u16, contexts: &[u16], axis: u16, test: u16, room: &mut [u16]) -> Written
+fn select(sig: &[u16], n: u16, contexts: &[u16], axis: u16, test: u16, room: &mut [u16]) -> Result<usize, Refusal>
     requires { Ready sig.now n × (axis ≤ 10) × (within n contexts.now ≡ true) }
     ensures { Leaves (room_for room.old (answer_of axis n (entries_of width sig.now).fa (entries_of width sig.now).name test 0 contexts.now)) result room.new }
 {
@@ -128,7 +128,7 @@ fn select(sig: &[u16], n: u16, contexts: &[u16], axis: u16, test: u16, room: &mu
 }
 
 // What an axis call answers and leaves once the check has accepted.
-fn axis_within(sig: &[u16], contexts: &[u16], axis: u16, test: u16, room: &mut [u16]) -> Written
+fn axis_within(sig: &[u16], contexts: &[u16], axis: u16, test: u16, room: &mut [u16]) -> Result<usize, Refusal>
     requires { Ready sig.now (entries sig.now) }
     ensures { Leaves (axis_within sig.now contexts.now axis test 0 room.old) result room.new }
 {
@@ -136,10 +136,7 @@ fn axis_within(sig: &[u16], contexts: &[u16], axis: u16, test: u16, room: &mut [
     if is_fine(n, contexts, axis) {
         return select(sig, n, contexts, axis, test, room);
     }
-    Written::Refused(Refusal {
-        number: BAD_ARGUMENT,
-        entry: PreRank(0),
-    })
+    Err(Fault::BadArgument.into())
 }
 
 // The elements on an axis of the contexts, with no position. The promise is that of `axes::axis` with position 0.
@@ -149,12 +146,12 @@ pub fn axis_without_position(
     axis: u16,
     name: u16,
     room: &mut [u16],
-) -> Written
+) -> Result<usize, Refusal>
     ensures { AxisPromise sig.now contexts.now axis name 0 room.old result room.new }
 {
     let verdict = check_whole(Kind::Data, sig);
     match verdict {
-        Verdict::Accepted => axis_within(sig, contexts, axis, name, room),
-        Verdict::Refused(refused) => Written::Refused(refused),
+        Ok(()) => axis_within(sig, contexts, axis, name, room),
+        Err(refused) => Err(refused),
     }
 }

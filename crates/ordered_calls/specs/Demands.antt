@@ -3,20 +3,18 @@
 --   Asked s w g        a twig and a data tree yield the two lists, and the tuple fits them
 --   Demand call        demand 2: where that is asked, the call is as meant; elsewhere it refuses, and writes nothing
 --   ours               the promise meets it
-use Rattle.std.specs.Prelude.{ℕ, zero, suc, ◌+◌, ◌*◌, ◌≤◌, ◌≡◌, refl, Bool, true, false, ◌&&◌, ◌⊎◌, List, [], ◌∷◌, eqb, leb, length, get_or}
+use Rattle.std.specs.Prelude.{ℕ, zero, suc, ◌+◌, ◌*◌, ◌≤◌, ◌≡◌, refl, Bool, true, false, ◌&&◌, ◌⊎◌, List, [], ◌∷◌, eqb, leb, length, get_or, Ok, Err}
 use Rattle.std.proofs.Common.{ap, sym, ◌∙◌, inl, inr, arith, le-leb, leb-true, eq-eqb, eqb-true}
 use Rattle.std.proofs.lemmas.Bool.{false≢true}
 use Rattle.turns.specs.Turn.{Halt}
 use Rattle.trees.specs.Tree.{whole, size}
 use Rattle.trees.specs.Signature.{entries}
 use Rattle.terms.specs.declared.Kind.{Kind}
-use Rattle.terms.specs.declared.Written.{Written}
 use Rattle.terms.specs.declared.Refusal.{Refusal}
-use Rattle.terms.specs.declared.Verdict.{Verdict}
 use Rattle.terms.specs.Kinds.{most}
 use Rattle.checking.specs.Rule.{fresh}
 use Rattle.checking.specs.Turn.{turn_of}
-use Rattle.terms.specs.Stops.{verdict_told, halt_told, refused_as, answered}
+use Rattle.terms.specs.Stops.{verdict_told, halt_told, refused_as, answered, Written}
 use Rattle.checking.specs.Whole.{whole_of}
 use Rattle.terms.specs.Room.{Left, refused_left}
 use Rattle.checked.specs.Yields.{Words, Yields}
@@ -47,7 +45,7 @@ pub record Asked (s w g : List ℕ) : Type 0 where
 pub record Demand (call : Call) : Type 0 where
   pub answers : (s w g room : List ℕ) → Asked s w g → Meant s w g room (answered (call s w g room).says) (call s w g room).after
   pub other : (s w g room : List ℕ) → Words s → Words w → (Asked s w g → ⊥)
-      → (why : Refusal) × ((call s w g room).says ≡ Written.Refused why) × ((call s w g room).after ≡ room)
+      → (why : Refusal) × ((call s w g room).says ≡ Err why) × ((call s w g room).after ≡ room)
 
 -- ---- a call that keeps the promise meets it
 
@@ -82,7 +80,7 @@ fits_tuple n m g h = go (eqb (length g) m) refl h
 accepts_or : (k : Kind) (s : List ℕ) → Accepts k s ⊎ (eqb (whole_of k s).reason 1 ≡ false)
 accepts_or k s = by (turn_of k s (2 * most k + 1) fresh).halt
   where
-    by : (h : Halt) → (verdict_told Verdict.Accepted ≡ halt_told h) ⊎ (eqb (halt_told h).reason 1 ≡ false)
+    by : (h : Halt) → (verdict_told (Ok tt) ≡ halt_told h) ⊎ (eqb (halt_told h).reason 1 ≡ false)
     by Halt.answer = inr refl
     by Halt.end = inl refl
     by Halt.budget = inr refl
@@ -97,11 +95,11 @@ module _ (s w g room : List ℕ) (r : Written) (after : List ℕ) (p : OrderedPr
       (tuple_fits_law (entries s) (entries w) g (a.count ∙ m) (λ i. omega (arith, a.each i, n)))
 
   -- as refused, whatever the number
-  as_refused : {number entry : ℕ} → (answered r ≡ refused_as number entry) × (after ≡ room) → (why : Refusal) × (r ≡ Written.Refused why) × (after ≡ room)
+  as_refused : {number entry : ℕ} → (answered r ≡ refused_as number entry) × (after ≡ room) → (why : Refusal) × (r ≡ Err why) × (after ≡ room)
   as_refused {number} {entry} q =
-      let why : Refusal = record { number = number; entry = record { 0 = entry } } in (why, answered_apart r (Written.Refused why) q.0, q.1)
+      let why : Refusal = record { number = number; entry = record { 0 = entry } } in (why, answered_apart r (Err why) q.0, q.1)
 
-  refuses : {number entry : ℕ} → ordered_of s w g room ≡ refused_left room number entry → (why : Refusal) × (r ≡ Written.Refused why) × (after ≡ room)
+  refuses : {number entry : ℕ} → ordered_of s w g room ≡ refused_left room number entry → (why : Refusal) × (r ≡ Err why) × (after ≡ room)
   refuses o = as_refused (p.told ∙ ap (λ (l : Left). l.answer) o, p.left ∙ ap (λ (l : Left). l.room) o)
 
   twig_not : eqb (whole_of Kind.Twig w).reason 1 ≡ false → ordered_of s w g room ≡ refused_left room (whole_of Kind.Twig w).number (whole_of Kind.Twig w).entry
@@ -111,15 +109,15 @@ module _ (s w g room : List ℕ) (r : Written) (after : List ℕ) (p : OrderedPr
       → ordered_of s w g room ≡ refused_left room (whole_of Kind.Data s).number (whole_of Kind.Data s).entry
   data_not a q = ordered_order s w g room ∙ simp (accepted_reason Kind.Twig w a, q)
 
-  promised_other : Words s → Words w → (Asked s w g → ⊥) → (why : Refusal) × (r ≡ Written.Refused why) × (after ≡ room)
+  promised_other : Words s → Words w → (Asked s w g → ⊥) → (why : Refusal) × (r ≡ Err why) × (after ≡ room)
   promised_other ws ww n = by_twig (accepts_or Kind.Twig w)
     where
       by_tuple : Accepts Kind.Twig w → Accepts Kind.Data s → (b : Bool) → tuple_fits (entries s) (entries w) g ≡ b
-          → (why : Refusal) × (r ≡ Written.Refused why) × (after ≡ room)
+          → (why : Refusal) × (r ≡ Err why) × (after ≡ room)
       by_tuple a d false f = as_refused (fault_tuple s w g room r after p a d f)
       by_tuple a d true f =
-          let x = (whole_exactly Kind.Twig w ww Verdict.Accepted a).sound refl in
-          let y = (whole_exactly Kind.Data s ws Verdict.Accepted d).sound refl in
+          let x = (whole_exactly Kind.Twig w ww (Ok tt) a).sound refl in
+          let y = (whole_exactly Kind.Data s ws (Ok tt) d).sound refl in
           let k = fits_tuple (entries s) (entries w) g f in
           absurd (n (record {
             twig = x;
@@ -128,11 +126,11 @@ module _ (s w g room : List ℕ) (r : Written) (after : List ℕ) (p : OrderedPr
             each = λ i. omega (arith, k.1 i, (tree_of s y.tree y.is).count);
           }))
 
-      by_data : Accepts Kind.Twig w → Accepts Kind.Data s ⊎ (eqb (whole_of Kind.Data s).reason 1 ≡ false) → (why : Refusal) × (r ≡ Written.Refused why) × (after ≡ room)
+      by_data : Accepts Kind.Twig w → Accepts Kind.Data s ⊎ (eqb (whole_of Kind.Data s).reason 1 ≡ false) → (why : Refusal) × (r ≡ Err why) × (after ≡ room)
       by_data a (inl d) = by_tuple a d (tuple_fits (entries s) (entries w) g) refl
       by_data a (inr q) = refuses (data_not a q)
 
-      by_twig : Accepts Kind.Twig w ⊎ (eqb (whole_of Kind.Twig w).reason 1 ≡ false) → (why : Refusal) × (r ≡ Written.Refused why) × (after ≡ room)
+      by_twig : Accepts Kind.Twig w ⊎ (eqb (whole_of Kind.Twig w).reason 1 ≡ false) → (why : Refusal) × (r ≡ Err why) × (after ≡ room)
       by_twig (inl a) = by_data a (accepts_or Kind.Data s)
       by_twig (inr q) = refuses (twig_not q)
 

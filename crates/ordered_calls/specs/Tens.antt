@@ -16,10 +16,9 @@ use Rattle.turns.specs.Turn.{run}
 use Rattle.trees.specs.Names.{passes}
 use Rattle.trees.specs.Signature.{cell, entries_of, width, entries}
 use Rattle.terms.specs.declared.Kind.{Kind}
-use Rattle.terms.specs.declared.Written.{Written}
 use Rattle.checking.specs.Rule.{step_of, close_of, accepted, nameless, second_root, in_range}
 use Rattle.terms.specs.Room.{refused_left, written_left, room_for}
-use Rattle.terms.specs.Stops.{answered}
+use Rattle.terms.specs.Stops.{answered, Written}
 use Rattle.checking.specs.Turn.{turn_within}
 use Rattle.terms.specs.Length.{length_fault}
 use Rattle.checking.specs.Whole.{whole_of}

@@ -2,7 +2,7 @@
 --   ten_begun, ten_front      one call has given 8 9 10, which is the front of all ordered answers
 --   ten_calls, ten_complete   two calls, of which the second gives none: 8 9 10 is the only one
 --   ten_map                   and it is the list of a map from the twig's elements to those of Ten
-use Rattle.std.specs.Prelude.{ℕ, ◌≡◌, refl}
+use Rattle.std.specs.Prelude.{ℕ, ◌≡◌, refl, Ok}
 use Rattle.std.proofs.Common.{sym, subst, arith}
 use mathlib.Core.List.{List, [], ◌∷◌, flat_map, Memᴰ}
 use Rattle.turns.specs.Turn.{run}
@@ -10,7 +10,6 @@ use Rattle.trees.specs.Tree.{Tree}
 use Rattle.trees.specs.Names.{passes}
 use Rattle.trees.specs.Signature.{cell, entries_of, width, entries}
 use Rattle.terms.specs.declared.Kind.{Kind}
-use Rattle.terms.specs.declared.Written.{Written}
 use Rattle.checking.specs.Rule.{step_of, close_of, accepted, nameless, second_root, in_range}
 use Rattle.checking.specs.Turn.{turn_within}
 use Rattle.terms.specs.Length.{length_fault}
@@ -27,13 +26,13 @@ use Rattle.ordered_calls.specs.OnTrees.{Ordered, ordered_maps}
 use Rattle.ordered_calls.specs.ShutOut.{zeros, found, three, fork_accepted, ten_accepted}
 
 -- the first call, from zeros on
-first_call : Called ten (fork 8 9 10) zeros (Written.Length 3) found
+first_call : Called ten (fork 8 9 10) zeros (Ok 3) found
 unfolding run turn_within length_fault in_range step_of close_of nameless second_root accepted cell passes room_for
     ranks tuples placed_test later_test answer_test smaller_test first_of next_answer flat_map all_up_to tuple_fits judged_of ordered_of
 first_call = record { room = three; enough = omega arith; promise = record { told = refl; left = refl } }
 
 -- the second call, from that answer on
-last_call : Called ten (fork 8 9 10) found (Written.Length 0) three
+last_call : Called ten (fork 8 9 10) found (Ok 0) three
 unfolding run turn_within length_fault in_range step_of close_of nameless second_root accepted cell passes room_for
     ranks tuples placed_test later_test answer_test smaller_test first_of next_answer flat_map all_up_to tuple_fits judged_of ordered_of
 last_call = record { room = three; enough = omega arith; promise = record { told = refl; left = refl } }

@@ -3,8 +3,7 @@ use Prim.Native.Nat.{ℕ}
 use mathlib.Core.Path.{◌≡◌, ap, ◌∙◌}
 use mathlib.Core.List.{List}
 use Rattle.terms.specs.Room.{Left, Leaves}
-use Rattle.terms.specs.declared.Written.{Written}
-use Rattle.terms.specs.Stops.{answered}
+use Rattle.terms.specs.Stops.{answered, Written}
 use Rattle.telling.specs.Numbers.{AnswerTold, LeftNumbers}
 use Rattle.telling.proofs.Laws.{answer_as}
 

@@ -7,7 +7,7 @@ ghost use Rattle.trees.specs.Signature.{width};
 ghost use Rattle.terms.specs.Room.{front_with};
 ghost use Rattle.records.specs.Records.{entry_bytes, bytes_from, nameless_from, write_fault, WritePromise};
 
-use terms::{Kind, Written};
+use terms::{Fault, Kind, Refusal};
 
 // Writes one signature record at a place of the room.
 fn put_record(room: &mut [u8], at: usize, name: u16, post: u16, ff: u16, fa: u16)
@@ -68,13 +68,13 @@ fn write_fault(sig: &[u16]) -> u16
         return fault;
     }
     if has_nameless(sig, len / 4) {
-        return terms::NAMELESS;
+        return Fault::Nameless;
     }
     0
 }
 
 // Writes the signature records of a data tree into the room.
-pub fn write_records(sig: &[u16], room: &mut [u8]) -> Written
+pub fn write_records(sig: &[u16], room: &mut [u8]) -> Result<usize, Refusal>
     ensures { WritePromise sig.now room.old result room.new }
 {
     let fault = write_fault(sig);
@@ -83,8 +83,8 @@ pub fn write_records(sig: &[u16], room: &mut [u8]) -> Written
     }
     let size = sig.len() / 4;
     if room.len() / 10 < size {
-        return bytes_read::refused(terms::NO_ROOM);
+        return bytes_read::refused(Fault::NoRoom);
     }
     fill_records(sig, size, room);
-    Written::Length(10 * size)
+    Ok(10 * size)
 }

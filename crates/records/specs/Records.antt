@@ -13,10 +13,10 @@ use Rattle.trees.specs.Signature.{width, entries}
 use Rattle.terms.specs.Kinds.{most}
 use Rattle.terms.specs.Length.{length_fault}
 use Rattle.terms.specs.declared.Kind.{Kind}
-use Rattle.terms.specs.declared.Written.{Written}
 use Rattle.bytes_read.specs.Bytes.{number_at, low, high, marked}
 use Rattle.bytes_read.specs.Scans.{Scan, first_fault, begin, scan_by, halt_number}
 use Rattle.terms.specs.Room.{Left, left_by, Leaves}
+use Rattle.terms.specs.Stops.{Written}
 
 -- "Signature-record calls judge only the name."
 unfoldable pub record_fault : List ℕ → Scan → ℕ

@@ -9,7 +9,7 @@ ghost use Rattle.bytes_read.specs.Scans.{halt_number};
 ghost use Rattle.terms.specs.Room.{front_with};
 ghost use Rattle.records.specs.Records.{record_at, record_fault, records_end, records_scan, numbers_from, ReadPromise};
 
-use terms::Written;
+use terms::{Fault, Refusal};
 
 // What the judging pass came to: the refusal's number, or 0, and how many records it passed.
 #[derive(Clone, Copy)]
@@ -26,21 +26,21 @@ fn record_fault(bytes: &[u8], count: u16) -> u16
     let at = 10 * (count as usize);
     let left = bytes.len() - at;
     if left < 2 {
-        return terms::CUT;
+        return Fault::Cut;
     }
     if bytes_read::is_marked(bytes, at, 83, 69) {
         if left < 10 {
-            return terms::CUT;
+            return Fault::Cut;
         }
         if bytes_read::number_at(bytes, at + 2) == 0 {
-            return terms::NAMELESS;
+            return Fault::Nameless;
         }
         if 4096 <= count {
-            return terms::TOO_MANY;
+            return Fault::TooMany;
         }
         return 0;
     }
-    terms::UNKNOWN_MARK
+    Fault::UnknownMark
 }
 
 // Whether all records are read.
@@ -106,7 +106,7 @@ fn fill_numbers(bytes: &[u8], size: usize, room: &mut [u16])
 }
 
 // Reads signature records of a data tree into the room.
-pub fn read_records(bytes: &[u8], room: &mut [u16]) -> Written
+pub fn read_records(bytes: &[u8], room: &mut [u16]) -> Result<usize, Refusal>
     ensures { ReadPromise bytes.now room.old result room.new }
 {
     let judged = scan_records(bytes);
@@ -116,8 +116,8 @@ pub fn read_records(bytes: &[u8], room: &mut [u16]) -> Written
     }
     let size = judged.count as usize;
     if room.len() < 4 * size {
-        return bytes_read::refused(terms::NO_ROOM);
+        return bytes_read::refused(Fault::NoRoom);
     }
     fill_numbers(bytes, size, room);
-    Written::Length(4 * size)
+    Ok(4 * size)
 }

@@ -5,17 +5,15 @@
 --   ours_back                whatever keeps our promise meets it
 --   shut_out_back_refusing, _fixed, _idle   refusing everything, one fixed answer, a call that does nothing
 --   shut_out_back_trusting   a call that answers on two roots
-use Rattle.std.specs.Prelude.{ℕ, ◌+◌, ◌*◌, ◌≤◌, ◌<◌, ◌≡◌, refl, List, [], ◌∷◌, length, get_or}
+use Rattle.std.specs.Prelude.{ℕ, ◌+◌, ◌*◌, ◌≤◌, ◌<◌, ◌≡◌, refl, List, [], ◌∷◌, length, get_or, Ok, Err}
 use Rattle.std.proofs.Common.{ap, ◌∙◌, sym, subst, arith}
 use Rattle.trees.specs.Tree.{none, Tree}
 use Rattle.trees.specs.Tags.{tags_of, tree_tags}
 use Rattle.terms.specs.declared.Kind.{Kind}
 use Rattle.terms.specs.declared.Refusal.{Refusal}
-use Rattle.terms.specs.declared.Verdict.{Verdict}
-use Rattle.terms.specs.declared.Written.{Written}
 use Rattle.terms.specs.Kinds.{most}
 use Rattle.checking.specs.Rule.{fresh}
-use Rattle.terms.specs.Stops.{Told, answered}
+use Rattle.terms.specs.Stops.{Told, answered, Written}
 use Rattle.checking.specs.Turn.{turn_of}
 use Rattle.checking.specs.Whole.{whole_of}
 use Rattle.terms.specs.Room.{front_with}
@@ -40,9 +38,9 @@ tag_list y = tag_bytes (tree_tags y.tree)
 
 -- "tag list to extended signature and back": the tree's tag list where the room is long enough, 10 where it is not; other numbers are refused, and not for the room
 pub record Writes (k : Kind) (s room : List ℕ) (w : Written) (after : List ℕ) : Type 0 where
-  pub fits : (y : Yields k s) → length (tag_list y) ≤ length room → (w ≡ Written.Length (length (tag_list y))) × (after ≡ front_with (tag_list y) room)
-  pub long : (y : Yields k s) → length room < length (tag_list y) → (w ≡ Written.Refused ten) × (after ≡ room)
-  pub other : (Yields k s → ⊥) → (why : Refusal) × (w ≡ Written.Refused why) × (why.number ≡ 10 → ⊥) × (after ≡ room)
+  pub fits : (y : Yields k s) → length (tag_list y) ≤ length room → (w ≡ Ok (length (tag_list y))) × (after ≡ front_with (tag_list y) room)
+  pub long : (y : Yields k s) → length room < length (tag_list y) → (w ≡ Err ten) × (after ≡ room)
+  pub other : (Yields k s → ⊥) → (why : Refusal) × (w ≡ Err why) × (why.number ≡ 10 → ⊥) × (after ≡ room)
 
 -- demand 2 over any call, by what it answers and what it leaves
 abbrev pub BackTwo : Kind → (List ℕ → List ℕ → Written) → (List ℕ → List ℕ → List ℕ) → Type 0
@@ -54,7 +52,7 @@ accepts : (k : Kind) (s : List ℕ) → Yields k s → (whole_of k s).reason ≡
 accepts k s y = ap (λ (t : Told). t.reason) (sym (yields_accepted k s y))
 
 module _ (k : Kind) (s room : List ℕ) (h : Words s) where
-  is_long : (w : Written) (after : List ℕ) → BackPromise k s room w after → (y : Yields k s) → length room < length (tag_list y) → (w ≡ Written.Refused ten) × (after ≡ room)
+  is_long : (w : Written) (after : List ℕ) → BackPromise k s room w after → (y : Yields k s) → length room < length (tag_list y) → (w ≡ Err ten) × (after ≡ room)
   is_long w after p y l =
       let b : back_bytes s ≡ tag_list y = ap (λ (t : Tree). tag_bytes (tree_tags t)) (tree_in_law s y.tree y.is) in
       let q = left_as _ _ w after (accepted_left k s room (accepts k s y)) p in
@@ -63,13 +61,13 @@ module _ (k : Kind) (s room : List ℕ) (h : Words s) where
 
   -- the whole check accepts where the reason is 1
   reason_yields : (whole_of k s).reason ≡ 1 → Yields k s
-  reason_yields q = (whole_exactly k s h Verdict.Accepted (ended_accepted (turn_of k s (2 * most k + 1) fresh).halt q)).sound refl
+  reason_yields q = (whole_exactly k s h (Ok tt) (ended_accepted (turn_of k s (2 * most k + 1) fresh).halt q)).sound refl
 
   is_other : (w : Written) (after : List ℕ) → BackPromise k s room w after → (Yields k s → ⊥)
-      → (why : Refusal) × (w ≡ Written.Refused why) × (why.number ≡ 10 → ⊥) × (after ≡ room)
-  is_other (Written.Length l) after p n = absurd (n (reason_yields (back_accepted k s room after l p)))
-  is_other (Written.Refused why) after p n =
-      (why, refl, (λ t. n (reason_yields ((back_ten_exactly k s room (Written.Refused why) after p).0 t).0)), back_nothing k s room why after p)
+      → (why : Refusal) × (w ≡ Err why) × (why.number ≡ 10 → ⊥) × (after ≡ room)
+  is_other (Ok l) after p n = absurd (n (reason_yields (back_accepted k s room after l p)))
+  is_other (Err why) after p n =
+      (why, refl, (λ t. n (reason_yields ((back_ten_exactly k s room (Err why) after p).0 t).0)), back_nothing k s room why after p)
 
 pub ours_back : (k : Kind) (call : List ℕ → List ℕ → Written) (after : List ℕ → List ℕ → List ℕ)
     → ((s room : List ℕ) → BackPromise k s room (call s room) (after s room)) → BackTwo k call after
@@ -101,19 +99,19 @@ unfolding small
 two_words = small_words two_roots refl
 
 module _ (call : List ℕ → List ℕ → Written) (after : List ℕ → List ℕ → List ℕ) (d : BackTwo Kind.Data call after) where
-  at_single : (call single six ≡ Written.Length 6) × (after single six ≡ 79 ∷ 80 ∷ 7 ∷ 0 ∷ 67 ∷ 76 ∷ [])
+  at_single : (call single six ≡ Ok 6) × (after single six ≡ 79 ∷ 80 ∷ 7 ∷ 0 ∷ 67 ∷ 76 ∷ [])
   unfolding tag_bytes tags_of
   at_single = (d single six single_words).fits single_yields (omega arith)
 
-  at_two : (room : List ℕ) → (why : Refusal) × (call two_roots room ≡ Written.Refused why)
+  at_two : (room : List ℕ) → (why : Refusal) × (call two_roots room ≡ Err why)
   at_two room = let q = (d two_roots room two_words).other two_none in (q.0, q.1)
 
-apart : (l : ℕ) (r : Refusal) → Written.Length l ≡ Written.Refused r → ⊥
+apart : (l : ℕ) (r : Refusal) → Ok l ≡ Err r → ⊥
 apart l r e = let z : ◌≡◌ {A = ℕ} 0 1 = ap (λ (x : Written). (answered x).refused) e in omega arith
 
 -- refusing everything, each time as it likes, whatever it leaves
-pub shut_out_back_refusing : (why : List ℕ → List ℕ → Refusal) (after : List ℕ → List ℕ → List ℕ) → BackTwo Kind.Data (λ s room. Written.Refused (why s room)) after → ⊥
-shut_out_back_refusing why after d = apart 6 (why single six) (sym (at_single (λ s room. Written.Refused (why s room)) after d).0)
+pub shut_out_back_refusing : (why : List ℕ → List ℕ → Refusal) (after : List ℕ → List ℕ → List ℕ) → BackTwo Kind.Data (λ s room. Err (why s room)) after → ⊥
+shut_out_back_refusing why after d = apart 6 (why single six) (sym (at_single (λ s room. Err (why s room)) after d).0)
 
 -- one fixed answer, whatever it leaves
 pub shut_out_back_fixed : (w : Written) (after : List ℕ → List ℕ → List ℕ) → BackTwo Kind.Data (λ s room. w) after → ⊥
@@ -127,5 +125,5 @@ shut_out_back_idle call d =
 
 -- any call that answers on the entries of two roots, which no tree yields, whatever the room is: one that trusts every fa
 pub shut_out_back_trusting : (call : List ℕ → List ℕ → Written) (after : List ℕ → List ℕ → List ℕ) (room : List ℕ) (l : ℕ)
-    → call two_roots room ≡ Written.Length l → BackTwo Kind.Data call after → ⊥
+    → call two_roots room ≡ Ok l → BackTwo Kind.Data call after → ⊥
 shut_out_back_trusting call after room l e d = let q = at_two call after d room in apart l q.0 (sym e ∙ q.1)

@@ -3,22 +3,20 @@
 --   …_one_result    two results that the promise allows are equal
 --   …_nothing       a refused call leaves the room as it was
 --   …_ten           where nothing before room is refused: 10 exactly if the result is longer than the room
-use Rattle.std.specs.Prelude.{ℕ, ◌/◌, ◌≤◌, ◌<◌, ◌≡◌, refl, true, false, List, length}
+use Rattle.std.specs.Prelude.{ℕ, ◌/◌, ◌≤◌, ◌<◌, ◌≡◌, refl, true, false, List, length, Err}
 use Rattle.std.proofs.Common.{ap, ◌∙◌, sym, arith, ne_eqb}
 use Rattle.std.proofs.Math.Decide.{ℕ_discrete, dec_le}
 use Rattle.terms.specs.Kinds.{any_name, most}
-use Rattle.terms.specs.Stops.{Answered, answered, refused_as}
+use Rattle.terms.specs.Stops.{Answered, answered, refused_as, Written}
 use Rattle.checking.specs.Whole.{whole_of}
 use Rattle.terms.specs.declared.Kind.{Kind}
 use Rattle.terms.specs.declared.Refusal.{Refusal}
-use Rattle.terms.specs.declared.Written.{Written}
 use Rattle.bytes_read.specs.Scans.{halt_number}
 use Rattle.terms.specs.Room.{Left, left_by}
 use Rattle.bytes_read.proofs.Rooms.{short_is, written_is}
 use Rattle.records.specs.Records.{records_scan, numbers_from, bytes_from, write_fault, ReadPromise, WritePromise}
-use Rattle.tag_lists.specs.declared.TreeRead.{TreeRead}
 use Rattle.tag_scan.specs.TagLists.{tree_scan, numbers_in}
-use Rattle.tag_lists.specs.Readers.{read_told, TagsPromise, TreePromise}
+use Rattle.tag_lists.specs.Readers.{read_told, TagsPromise, TreePromise, TreeRead}
 use Rattle.tag_writing.specs.TagsBack.{back_bytes, back_left, BackPromise}
 use Rattle.tag_writing.proofs.Back.{left_as}
 use Rattle.retold.specs.Rooms.{one_result, one_reading, Case, refused, short, written, which}
@@ -59,8 +57,8 @@ module _ (b room : List ℕ) where
   pub read_one_result : (w v : Written) (x y : List ℕ) → ReadPromise b room w x → ReadPromise b room v y → (w ≡ v) × (x ≡ y)
   read_one_result w v x y p q = one_result _ w v x y p q
 
-  pub read_nothing : (r : Refusal) (after : List ℕ) → ReadPromise b room (Written.Refused r) after → after ≡ room
-  read_nothing r after p = nothing_of _ _ _ _ (answered (Written.Refused r)) p.told after p.left refl
+  pub read_nothing : (r : Refusal) (after : List ℕ) → ReadPromise b room (Err r) after → after ≡ room
+  read_nothing r after p = nothing_of _ _ _ _ (answered (Err r)) p.told after p.left refl
 
   pub read_ten : (w : Written) (after : List ℕ) → ReadPromise b room w after → halt_number (records_scan b).halt ≡ 0
       → Ten (answered w).number (numbers_from b 0 (records_scan b).state.count) room
@@ -70,8 +68,8 @@ module _ (s room : List ℕ) where
   pub write_one_result : (w v : Written) (x y : List ℕ) → WritePromise s room w x → WritePromise s room v y → (w ≡ v) × (x ≡ y)
   write_one_result w v x y p q = one_result _ w v x y p q
 
-  pub write_nothing : (r : Refusal) (after : List ℕ) → WritePromise s room (Written.Refused r) after → after ≡ room
-  write_nothing r after p = nothing_of _ _ _ _ (answered (Written.Refused r)) p.told after p.left refl
+  pub write_nothing : (r : Refusal) (after : List ℕ) → WritePromise s room (Err r) after → after ≡ room
+  write_nothing r after p = nothing_of _ _ _ _ (answered (Err r)) p.told after p.left refl
 
   pub write_ten : (w : Written) (after : List ℕ) → WritePromise s room w after → write_fault s ≡ 0 → Ten (answered w).number (bytes_from s 0 (length s / 4)) room
   write_ten w after p h = ten_of _ 0 _ _ (answered w) p.told h
@@ -82,8 +80,8 @@ module _ (k : Kind) (b room : List ℕ) where
   pub tags_one_result : (w v : Written) (x y : List ℕ) → TagsPromise k b room w x → TagsPromise k b room v y → (w ≡ v) × (x ≡ y)
   tags_one_result w v x y p q = one_result _ w v x y p q
 
-  pub tags_nothing : (r : Refusal) (after : List ℕ) → TagsPromise k b room (Written.Refused r) after → after ≡ room
-  tags_nothing r after p = nothing_of _ _ _ _ (answered (Written.Refused r)) p.told after p.left refl
+  pub tags_nothing : (r : Refusal) (after : List ℕ) → TagsPromise k b room (Err r) after → after ≡ room
+  tags_nothing r after p = nothing_of _ _ _ _ (answered (Err r)) p.told after p.left refl
 
   pub tags_ten : (w : Written) (after : List ℕ) → TagsPromise k b room w after → halt_number (tree_scan true (any_name k) (most k) b 0).halt ≡ 0
       → Ten (answered w).number (numbers_in b 0 (tree_scan true (any_name k) (most k) b 0).state.count) room
@@ -93,8 +91,8 @@ module _ (k : Kind) (b : List ℕ) (p : ℕ) (room : List ℕ) where
   pub tree_one_result : (r t : TreeRead) (x y : List ℕ) → TreePromise k b p room r x → TreePromise k b p room t y → (r ≡ t) × (x ≡ y)
   tree_one_result r t x y g h = one_reading _ _ _ _ r t x y g h
 
-  pub tree_nothing : (r : Refusal) (after : List ℕ) → TreePromise k b p room (TreeRead.Refused r) after → after ≡ room
-  tree_nothing r after g = nothing_of _ _ _ _ (read_told (TreeRead.Refused r)).answer g.told after g.left refl
+  pub tree_nothing : (r : Refusal) (after : List ℕ) → TreePromise k b p room (Err r) after → after ≡ room
+  tree_nothing r after g = nothing_of _ _ _ _ (read_told (Err r)).answer g.told after g.left refl
 
   pub tree_ten : (r : TreeRead) (after : List ℕ) → TreePromise k b p room r after → halt_number (tree_scan false (any_name k) (most k) b p).halt ≡ 0
       → Ten (read_told r).answer.number (numbers_in b p (tree_scan false (any_name k) (most k) b p).state.count) room
@@ -111,13 +109,13 @@ module _ (k : Kind) (s room : List ℕ) where
   unfolding back_left
   back_unaccepted h = simp (ne_eqb _ _ h)
 
-  pub back_nothing : (r : Refusal) (after : List ℕ) → BackPromise k s room (Written.Refused r) after → after ≡ room
+  pub back_nothing : (r : Refusal) (after : List ℕ) → BackPromise k s room (Err r) after → after ≡ room
   back_nothing r after p = go (ℕ_discrete (whole_of k s).reason 1)
     where
       go : Dec ((whole_of k s).reason ≡ 1) → after ≡ room
       go (yes h) =
-          let q = left_as _ _ (Written.Refused r) after (accepted_left k s room h) p in
-          nothing_of 0 0 (back_bytes s) room (answered (Written.Refused r)) q.told after q.left refl
+          let q = left_as _ _ (Err r) after (accepted_left k s room h) p in
+          nothing_of 0 0 (back_bytes s) room (answered (Err r)) q.told after q.left refl
       go (no h) = p.left ∙ ap (λ (x : Left). x.room) (back_unaccepted h)
 
   pub back_ten : (w : Written) (after : List ℕ) → BackPromise k s room w after → (whole_of k s).reason ≡ 1 → Ten (answered w).number (back_bytes s) room

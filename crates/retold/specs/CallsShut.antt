@@ -2,26 +2,24 @@
 --   …_shut_refusing   refusing everything, with any numbers
 --   …_shut_fixed      one fixed answer
 --   …_shut_idle       a call that does nothing to the room
-use Rattle.std.specs.Prelude.{ℕ, ◌≡◌, refl, false, List, [], ◌∷◌, get_or}
+use Rattle.std.specs.Prelude.{ℕ, ◌≡◌, refl, false, List, [], ◌∷◌, get_or, Ok, Err}
 use Rattle.std.proofs.Common.{ap, ◌∙◌, sym, arith}
 use Rattle.turns.specs.Turn.{run}
 use Rattle.trees.specs.Signature.{cell}
 use Rattle.trees.specs.Tags.{tags_of, opened, closed, rows_of, one_tree, tree_of}
 use Rattle.checking.specs.Rule.{step_of, close_of, accepted, nameless, second_root, in_range}
-use Rattle.terms.specs.Stops.{Answered}
+use Rattle.terms.specs.Stops.{Answered, Written}
 use Rattle.checking.specs.Turn.{turn_within}
 use Rattle.terms.specs.Length.{length_fault}
 use Rattle.terms.specs.declared.Kind.{Kind}
 use Rattle.terms.specs.declared.Refusal.{Refusal}
-use Rattle.terms.specs.declared.Written.{Written}
 use Rattle.checked.specs.Menus.{single, single_record, single_tags}
 use Rattle.bytes_read.specs.Bytes.{marked}
 use Rattle.bytes_read.specs.Scans.{step_by, halt_number}
 use Rattle.terms.specs.Room.{Left, left_by, room_for, Leaves}
 use Rattle.records.specs.Records.{record_fault, records_end, numbers_from, bytes_from, nameless_from, write_fault, read_left, write_left, ReadPromise, WritePromise}
-use Rattle.tag_lists.specs.declared.TreeRead.{TreeRead}
 use Rattle.tag_scan.specs.TagLists.{tag_bytes, closed_with, nameless_at, misnested, tag_fault, tag_next, tree_end, tree_scan, tags_from, numbers_in}
-use Rattle.tag_lists.specs.Readers.{read_told, tags_left, TagsPromise, TreePromise}
+use Rattle.tag_lists.specs.Readers.{read_told, tags_left, TagsPromise, TreePromise, TreeRead}
 use Rattle.tag_writing.specs.TagsBack.{row_from, back_left, BackPromise}
 
 -- nothing, and a room
@@ -34,16 +32,16 @@ zeros = 0 ∷ 0 ∷ 0 ∷ 0 ∷ 0 ∷ 0 ∷ 0 ∷ 0 ∷ 0 ∷ 0 ∷ []
 -- ---- an answer of a call that writes into lent room
 
 module _ (x : Left) (after : List ℕ) where
-  not_refused : x.answer.refused ≡ 0 → (r : Refusal) → Leaves x (Written.Refused r) after → ⊥
+  not_refused : x.answer.refused ≡ 0 → (r : Refusal) → Leaves x (Err r) after → ⊥
   not_refused h r p = let z : ◌≡◌ {A = ℕ} 1 0 = ap (λ (a : Answered). a.refused) p.told ∙ h in omega arith
 
-  not_worked : x.answer.refused ≡ 1 → (l : ℕ) → Leaves x (Written.Length l) after → ⊥
+  not_worked : x.answer.refused ≡ 1 → (l : ℕ) → Leaves x (Ok l) after → ⊥
   not_worked h l p = let z : ◌≡◌ {A = ℕ} 0 1 = ap (λ (a : Answered). a.refused) p.told ∙ h in omega arith
 
 -- one answer for a case that works and for one that is refused
 fixed_not : (x y : Left) (u v : List ℕ) (w : Written) → x.answer.refused ≡ 0 → y.answer.refused ≡ 1 → Leaves x w u → Leaves y w v → ⊥
-fixed_not x y u v (Written.Refused r) h g p q = not_refused x u h r p
-fixed_not x y u v (Written.Length l) h g p q = not_worked y v g l q
+fixed_not x y u v (Err r) h g p q = not_refused x u h r p
+fixed_not x y u v (Ok l) h g p q = not_worked y v g l q
 
 -- the room's first number was 0 and must be another
 idle_not : (x : Left) (w : Written) (n : ℕ) → get_or x.room 0 0 ≡ n → (n ≡ 0 → ⊥) → Leaves x w zeros → ⊥
@@ -64,7 +62,7 @@ unfolding run step_by marked record_fault records_end numbers_from left_by room_
 read_first = refl
 
 pub read_shut_refusing : (r : List ℕ → List ℕ → Refusal) (after : List ℕ → List ℕ → List ℕ)
-    → ((x room : List ℕ) → ReadPromise x room (Written.Refused (r x room)) (after x room)) → ⊥
+    → ((x room : List ℕ) → ReadPromise x room (Err (r x room)) (after x room)) → ⊥
 read_shut_refusing r after p = not_refused _ _ read_entry _ (p single_record zeros)
 
 pub read_shut_fixed : (w : Written) (after : List ℕ → List ℕ → List ℕ) → ((x room : List ℕ) → ReadPromise x room w (after x room)) → ⊥
@@ -88,7 +86,7 @@ unfolding length_fault bytes_from nameless_from write_fault left_by room_for
 write_first = refl
 
 pub write_shut_refusing : (r : List ℕ → List ℕ → Refusal) (after : List ℕ → List ℕ → List ℕ)
-    → ((x room : List ℕ) → WritePromise x room (Written.Refused (r x room)) (after x room)) → ⊥
+    → ((x room : List ℕ) → WritePromise x room (Err (r x room)) (after x room)) → ⊥
 write_shut_refusing r after p = not_refused _ _ write_entry _ (p single zeros)
 
 pub write_shut_fixed : (w : Written) (after : List ℕ → List ℕ → List ℕ) → ((x room : List ℕ) → WritePromise x room w (after x room)) → ⊥
@@ -112,7 +110,7 @@ unfolding run step_by marked closed_with nameless_at misnested tag_fault tag_nex
 tags_first = refl
 
 pub tags_shut_refusing : (r : List ℕ → List ℕ → Refusal) (after : List ℕ → List ℕ → List ℕ)
-    → ((x room : List ℕ) → TagsPromise Kind.Data x room (Written.Refused (r x room)) (after x room)) → ⊥
+    → ((x room : List ℕ) → TagsPromise Kind.Data x room (Err (r x room)) (after x room)) → ⊥
 tags_shut_refusing r after p = not_refused _ _ tags_entry _ (p single_tags zeros)
 
 pub tags_shut_fixed : (w : Written) (after : List ℕ → List ℕ → List ℕ) → ((x room : List ℕ) → TagsPromise Kind.Data x room w (after x room)) → ⊥
@@ -136,7 +134,7 @@ unfolding run turn_within length_fault in_range step_of close_of nameless second
 back_first = refl
 
 pub back_shut_refusing : (r : List ℕ → List ℕ → Refusal) (after : List ℕ → List ℕ → List ℕ)
-    → ((x room : List ℕ) → BackPromise Kind.Data x room (Written.Refused (r x room)) (after x room)) → ⊥
+    → ((x room : List ℕ) → BackPromise Kind.Data x room (Err (r x room)) (after x room)) → ⊥
 back_shut_refusing r after p = not_refused _ _ back_entry _ (p single zeros)
 
 pub back_shut_fixed : (w : Written) (after : List ℕ → List ℕ → List ℕ) → ((x room : List ℕ) → BackPromise Kind.Data x room w (after x room)) → ⊥
@@ -160,7 +158,7 @@ unfolding run step_by marked closed_with nameless_at misnested tag_fault tag_nex
 tree_first = refl
 
 pub tree_shut_refusing : (r : List ℕ → List ℕ → Refusal) (after : List ℕ → List ℕ → List ℕ)
-    → ((x room : List ℕ) → TreePromise Kind.Data x 0 room (TreeRead.Refused (r x room)) (after x room)) → ⊥
+    → ((x room : List ℕ) → TreePromise Kind.Data x 0 room (Err (r x room)) (after x room)) → ⊥
 tree_shut_refusing r after p = let z : ◌≡◌ {A = ℕ} 1 0 = ap (λ (a : Answered). a.refused) (p single_tags zeros).told ∙ tree_entry in omega arith
 
 pub tree_shut_fixed : (r : TreeRead) (after : List ℕ → List ℕ → List ℕ) → ((x room : List ℕ) → TreePromise Kind.Data x 0 room r (after x room)) → ⊥

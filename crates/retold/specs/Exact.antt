@@ -3,15 +3,14 @@
 --   number, result              the number that the bytes are refused with before the room is judged, and the numbers that they come to
 --   tags_accepted_exactly       bytes are taken exactly if they are the tag list of a tree of the kind
 --   tags_signature              and what is written then is that tree's signature
-use Rattle.std.specs.Prelude.{ℕ, ◌≤◌, ◌≡◌, refl, ◌⊎◌, true, List, [], ◌++◌, length, drop}
+use Rattle.std.specs.Prelude.{ℕ, ◌≤◌, ◌≡◌, refl, ◌⊎◌, true, List, [], ◌++◌, length, drop, Ok, Err}
 use Rattle.std.proofs.Common.{ap, ◌∙◌, sym, subst, inl, inr, append-nil, arith}
 use Rattle.std.proofs.Math.Seq.{drop-length}
 use Rattle.trees.specs.Signature.{signature}
 use Rattle.trees.specs.Tags.{tree_tags}
 use Rattle.terms.specs.Kinds.{any_name, most}
-use Rattle.terms.specs.Stops.{Answered, answered}
+use Rattle.terms.specs.Stops.{Answered, answered, Written}
 use Rattle.terms.specs.declared.Kind.{Kind}
-use Rattle.terms.specs.declared.Written.{Written}
 use Rattle.bytes_read.specs.Scans.{halt_number}
 use Rattle.terms.specs.Room.{Left, left_by, front_with}
 use Rattle.tag_scan.specs.TagLists.{tag_bytes, tree_scan, numbers_in}
@@ -25,7 +24,7 @@ use Rattle.retold.specs.Numbers.{never_ten}
 
 -- the verdict before room: it worked, or only the room was too small
 abbrev pub Fine : Written → Type 0
-Fine w = ((l : ℕ) × (w ≡ Written.Length l)) ⊎ (w ≡ Written.Refused (record { number = 10; entry = record { 0 = 0 } }))
+Fine w = ((l : ℕ) × (w ≡ Ok l)) ⊎ (w ≡ Err (record { number = 10; entry = record { 0 = 0 } }))
 
 module _ (k : Kind) (b : List ℕ) where
   -- the number that the bytes are refused with before the room is judged, or 0
@@ -96,8 +95,8 @@ module _ (k : Kind) (b : List ℕ) where
 
     -- what is written is the tree's signature
     pub tags_signature : (y : Taken k b) → length (signature y.tree) ≤ length room
-        → (w ≡ Written.Length (length (signature y.tree))) × (after ≡ front_with (signature y.tree) room)
+        → (w ≡ Ok (length (signature y.tree))) × (after ≡ front_with (signature y.tree) room)
     tags_signature y l =
         let f = taken_fine y in
         let r = fits_written number 0 result room w after p f.0 (subst (λ (x : List ℕ). length x ≤ length room) (sym f.1) l) in
-        (r.0 ∙ ap (λ (x : List ℕ). Written.Length (length x)) f.1, r.1 ∙ ap (λ (x : List ℕ). front_with x room) f.1)
+        (r.0 ∙ ap (λ (x : List ℕ). Ok (length x)) f.1, r.1 ∙ ap (λ (x : List ℕ). front_with x room) f.1)

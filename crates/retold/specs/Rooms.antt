@@ -3,16 +3,14 @@
 --   refused_writes_nothing      a refused call leaves the room as it was
 --   front_of_room               one that worked writes the result at the front, and nothing beyond it
 --   ten_given, ten_only         where nothing else is refused, 10 exactly if the result is longer than the room
-use Rattle.std.specs.Prelude.{ℕ, ◌≤◌, ◌<◌, ◌≡◌, List, length}
+use Rattle.std.specs.Prelude.{ℕ, ◌≤◌, ◌<◌, ◌≡◌, List, length, Ok, Err}
 use Rattle.std.proofs.Common.{ap, ◌∙◌, sym, arith}
 use Rattle.std.proofs.Math.Decide.{ℕ_discrete, dec_le}
-use Rattle.terms.specs.Stops.{Answered, answered, worked, refused_as}
+use Rattle.terms.specs.Stops.{Answered, answered, worked, refused_as, Written}
 use Rattle.terms.specs.declared.Refusal.{Refusal}
-use Rattle.terms.specs.declared.Written.{Written}
 use Rattle.checked.specs.Apart.{answered_apart}
-use Rattle.tag_lists.specs.declared.TreeRead.{TreeRead}
 use Rattle.terms.specs.Room.{Left, left_by, front_with, Leaves}
-use Rattle.tag_lists.specs.Readers.{ReadTold, read_told, ReadLeft}
+use Rattle.tag_lists.specs.Readers.{ReadTold, read_told, ReadLeft, TreeRead}
 use Rattle.bytes_read.proofs.Rooms.{refused_is, short_is, written_is}
 
 -- ---- one result
@@ -22,18 +20,18 @@ one_result x w v a b p q = (answered_apart w v (p.told ∙ sym q.told), p.left �
 
 -- the numbers of a reading tell it apart
 pub reading_apart : (r s : TreeRead) → read_told r ≡ read_told s → r ≡ s
-reading_apart (TreeRead.Tree a b) (TreeRead.Tree c d) q =
+reading_apart (Ok (a, b)) (Ok (c, d)) q =
     let l : a ≡ c = ap (λ (x : ReadTold). x.answer.length) q in
     let e : b ≡ d = ap (λ (x : ReadTold). x.end) q in
     cc
-reading_apart (TreeRead.Tree a b) (TreeRead.Refused r) q =
+reading_apart (Ok (a, b)) (Err r) q =
     let z : ◌≡◌ {A = ℕ} 0 1 = ap (λ (x : ReadTold). x.answer.refused) q in absurd (omega arith)
-reading_apart (TreeRead.Refused r) (TreeRead.Tree c d) q =
+reading_apart (Err r) (Ok (c, d)) q =
     let z : ◌≡◌ {A = ℕ} 1 0 = ap (λ (x : ReadTold). x.answer.refused) q in absurd (omega arith)
-reading_apart (TreeRead.Refused r) (TreeRead.Refused s) q =
+reading_apart (Err r) (Err s) q =
     let n : r.number ≡ s.number = ap (λ (x : ReadTold). x.answer.number) q in
     let e : r.entry.0 ≡ s.entry.0 = ap (λ (x : ReadTold). x.answer.entry) q in
-    λ i. TreeRead.Refused (record { number = n i; entry = record { 0 = e i } })
+    λ i. Err (record { number = n i; entry = record { 0 = e i } })
 
 pub one_reading : (number end : ℕ) (result room : List ℕ) (r s : TreeRead) (a b : List ℕ)
     → ReadLeft number end result room r a → ReadLeft number end result room s b → (r ≡ s) × (a ≡ b)
@@ -62,7 +60,7 @@ module _ (number entry : ℕ) (result room : List ℕ) where
 
   module _ (w : Written) (after : List ℕ) (p : Leaves (left_by number entry result room) w after) where
     -- "A refused single call … writes nothing"
-    pub refused_writes_nothing : (r : Refusal) → w ≡ Written.Refused r → after ≡ room
+    pub refused_writes_nothing : (r : Refusal) → w ≡ Err r → after ≡ room
     refused_writes_nothing r q = go which
       where
         go : Case → after ≡ room
@@ -78,7 +76,7 @@ module _ (number entry : ℕ) (result room : List ℕ) where
       pub fits : l ≤ length room
       pub left : after ≡ front_with result room
 
-    pub front_of_room : (l : ℕ) → w ≡ Written.Length l → Front l
+    pub front_of_room : (l : ℕ) → w ≡ Ok l → Front l
     front_of_room l q = go which
       where
         told : (a : Answered) → (left_by number entry result room).answer ≡ a → worked l ≡ a
@@ -94,7 +92,7 @@ module _ (number entry : ℕ) (result room : List ℕ) where
             record { fine = h; long = n; fits = omega (arith, n); left = p.left ∙ ap (λ (x : Left). x.room) e }
 
     -- "10 is given exactly if the result is longer than the room"
-    pub ten_given : number ≡ 0 → length room < length result → w ≡ Written.Refused (record { number = 10; entry = record { 0 = 0 } })
+    pub ten_given : number ≡ 0 → length room < length result → w ≡ Err (record { number = 10; entry = record { 0 = 0 } })
     ten_given h l = answered_apart w _ (p.told ∙ ap (λ (x : Left). x.answer) (short_is number entry result room h l))
 
     pub ten_only : number ≡ 0 → (answered w).number ≡ 10 → length room < length result
@@ -107,7 +105,7 @@ module _ (number entry : ℕ) (result room : List ℕ) where
             let z : ◌≡◌ {A = ℕ} 0 10 = ap (λ (x : Answered). x.number) (ap (λ (x : Left). x.answer) (sym e) ∙ sym p.told) ∙ q in absurd (omega arith)
 
     -- a result that fits is written
-    pub fits_written : number ≡ 0 → length result ≤ length room → (w ≡ Written.Length (length result)) × (after ≡ front_with result room)
+    pub fits_written : number ≡ 0 → length result ≤ length room → (w ≡ Ok (length result)) × (after ≡ front_with result room)
     fits_written h l =
         let e = written_is number entry result room h l in
         (answered_apart w _ (p.told ∙ ap (λ (x : Left). x.answer) e), p.left ∙ ap (λ (x : Left). x.room) e)

@@ -3,7 +3,7 @@
 --   tags_there_and_back, tags_back_and_there          tag lists
 --   records_there_and_back, records_back_and_there    signature records
 --   ended_accepted, back_accepted                     a whole check that ends has accepted; so has that of a signature that was written as a tag list
-use Rattle.std.specs.Prelude.{ℕ, ◌+◌, ◌*◌, ◌/◌, ◌≤◌, ◌≡◌, refl, Bool, true, false, List, [], ◌∷◌, ◌++◌, length, eqb}
+use Rattle.std.specs.Prelude.{ℕ, ◌+◌, ◌*◌, ◌/◌, ◌≤◌, ◌≡◌, refl, Bool, true, false, List, [], ◌∷◌, ◌++◌, length, eqb, Ok}
 use Rattle.std.proofs.Common.{ap, ◌∙◌, sym, subst, arith, eqb-true}
 use Rattle.std.proofs.Math.Decide.{ℕ_discrete}
 use Rattle.std.proofs.lemmas.Bool.{eqb-false}
@@ -12,13 +12,11 @@ use Rattle.turns.specs.Turn.{Halt}
 use Rattle.trees.specs.Signature.{width}
 use Rattle.terms.specs.Kinds.{most}
 use Rattle.checking.specs.Rule.{fresh}
-use Rattle.terms.specs.Stops.{Answered, halt_told, verdict_told}
+use Rattle.terms.specs.Stops.{Answered, halt_told, verdict_told, Written}
 use Rattle.checking.specs.Turn.{turn_of}
 use Rattle.terms.specs.Length.{length_fault}
 use Rattle.checking.specs.Whole.{whole_of}
 use Rattle.terms.specs.declared.Kind.{Kind}
-use Rattle.terms.specs.declared.Verdict.{Verdict}
-use Rattle.terms.specs.declared.Written.{Written}
 use Rattle.terms.proofs.Lengths.{length_sized, length_fine}
 use Rattle.checked.specs.Yields.{Words}
 use Rattle.checked.specs.Wholly.{whole_exactly}
@@ -50,24 +48,24 @@ front_same (a ∷ s) (c ∷ r) x y l e =
 -- ---- tag lists
 
 -- bytes to numbers to bytes
-pub tags_there_and_back : (k : Kind) (b : List ℕ) → Bytes b → (room after : List ℕ) (n : ℕ) → TagsPromise k b room (Written.Length n) after
+pub tags_there_and_back : (k : Kind) (b : List ℕ) → Bytes b → (room after : List ℕ) (n : ℕ) → TagsPromise k b room (Ok n) after
     → (s rest : List ℕ) → after ≡ s ++ rest → length s ≡ n → (space : List ℕ) (w : Written) (out : List ℕ) → BackPromise k s space w out
-    → length b ≤ length space → (w ≡ Written.Length (length b)) × (out ≡ front_with b space)
+    → length b ≤ length space → (w ≡ Ok (length b)) × (out ≡ front_with b space)
 tags_there_and_back k b bytes room after n p s rest e m space w out q l =
-    let f = front_of_room _ 0 _ room (Written.Length n) after p n refl in
+    let f = front_of_room _ 0 _ room (Ok n) after p n refl in
     let y = fine_taken k b bytes f.fine in
     let same = front_same s _ rest _ (m ∙ f.long) (sym e ∙ f.left) ∙ y.1 in
     there_and_back k b y.0 space w out (subst (λ (x : List ℕ). BackPromise k x space w out) same q) l
 
 -- a whole check that ends has accepted
-pub ended_accepted : (h : Halt) → (halt_told h).reason ≡ 1 → verdict_told Verdict.Accepted ≡ halt_told h
+pub ended_accepted : (h : Halt) → (halt_told h).reason ≡ 1 → verdict_told (Ok tt) ≡ halt_told h
 ended_accepted Halt.answer q = absurd (omega arith)
 ended_accepted Halt.end q = refl
 ended_accepted Halt.budget q = absurd (omega arith)
 ended_accepted (Halt.refusal number place) q = absurd (omega arith)
 
 -- a signature that was written as a tag list is one that the check accepts
-pub back_accepted : (k : Kind) (s room after : List ℕ) (n : ℕ) → BackPromise k s room (Written.Length n) after → (whole_of k s).reason ≡ 1
+pub back_accepted : (k : Kind) (s room after : List ℕ) (n : ℕ) → BackPromise k s room (Ok n) after → (whole_of k s).reason ≡ 1
 back_accepted k s room after n p = go (ℕ_discrete (whole_of k s).reason 1)
   where
     go : Dec ((whole_of k s).reason ≡ 1) → (whole_of k s).reason ≡ 1
@@ -76,13 +74,13 @@ back_accepted k s room after n p = go (ℕ_discrete (whole_of k s).reason 1)
         let z : ◌≡◌ {A = ℕ} 0 1 = ap (λ (a : Answered). a.refused) (p.told ∙ ap (λ (x : Left). x.answer) (back_unaccepted k s room h)) in absurd (omega arith)
 
 -- numbers to bytes to numbers
-pub tags_back_and_there : (k : Kind) (s : List ℕ) → Words s → (room after : List ℕ) (n : ℕ) → BackPromise k s room (Written.Length n) after
+pub tags_back_and_there : (k : Kind) (s : List ℕ) → Words s → (room after : List ℕ) (n : ℕ) → BackPromise k s room (Ok n) after
     → (b rest : List ℕ) → after ≡ b ++ rest → length b ≡ n → (space : List ℕ) (w : Written) (out : List ℕ) → TagsPromise k b space w out
-    → length s ≤ length space → (w ≡ Written.Length (length s)) × (out ≡ front_with s space)
+    → length s ≤ length space → (w ≡ Ok (length s)) × (out ≡ front_with s space)
 tags_back_and_there k s words room after n p b rest e m space w out q l =
     let h = back_accepted k s room after n p in
-    let y = (whole_exactly k s words Verdict.Accepted (ended_accepted (turn_of k s (2 * most k + 1) fresh).halt h)).sound refl in
-    let f = front_of_room 0 0 (back_bytes s) room (Written.Length n) after (left_as _ _ (Written.Length n) after (accepted_left k s room h) p) n refl in
+    let y = (whole_exactly k s words (Ok tt) (ended_accepted (turn_of k s (2 * most k + 1) fresh).halt h)).sound refl in
+    let f = front_of_room 0 0 (back_bytes s) room (Ok n) after (left_as _ _ (Ok n) after (accepted_left k s room h) p) n refl in
     let same = front_same b (back_bytes s) rest _ (m ∙ f.long) (sym e ∙ f.left) in
     back_and_there k s y space w out (subst (λ (x : List ℕ). TagsPromise k x space w out) same q) l
 
@@ -103,18 +101,18 @@ readable_bytes b n r =
     ap (bytes_from (numbers_from b 0 n) 0) (sym many) ∙ r.same
 
 -- bytes to numbers to bytes
-pub records_there_and_back : (b : List ℕ) → Bytes b → (room after : List ℕ) (n : ℕ) → ReadPromise b room (Written.Length n) after
+pub records_there_and_back : (b : List ℕ) → Bytes b → (room after : List ℕ) (n : ℕ) → ReadPromise b room (Ok n) after
     → (s rest : List ℕ) → after ≡ s ++ rest → length s ≡ n → (space : List ℕ) (w : Written) (out : List ℕ) → WritePromise s space w out
-    → length b ≤ length space → (w ≡ Written.Length (length b)) × (out ≡ front_with b space)
+    → length b ≤ length space → (w ≡ Ok (length b)) × (out ≡ front_with b space)
 records_there_and_back b bytes room after n p s rest e m space w out q l =
-    let f = front_of_room _ 0 _ room (Written.Length n) after p n refl in
+    let f = front_of_room _ 0 _ room (Ok n) after p n refl in
     let c = (records_scan b).state.count in
     let r = records_read b bytes f.fine in
     let same = front_same s (numbers_from b 0 c) rest _ (m ∙ f.long) (sym e ∙ f.left) in
     let back = readable_bytes b c r in
     let x = fits_written _ 0 _ space w out (subst (λ (t : List ℕ). WritePromise t space w out) same q) (readable_fault b c r)
     (subst (λ (t : List ℕ). length t ≤ length space) (sym back) l) in
-    (x.0 ∙ ap (λ (t : List ℕ). Written.Length (length t)) back, x.1 ∙ ap (λ (t : List ℕ). front_with t space) back)
+    (x.0 ∙ ap (λ (t : List ℕ). Ok (length t)) back, x.1 ∙ ap (λ (t : List ℕ). front_with t space) back)
 
 -- a signature that was written: its length is fine, and every entry has a name
 written_fine : (s : List ℕ) → write_fault s ≡ 0 → (length_fault (most Kind.Data) width (length s) ≡ 0) × (nameless_from s 0 (length s / 4) ≡ false)
@@ -129,11 +127,11 @@ written_fine s = go (eqb (length_fault (most Kind.Data) width (length s)) 0) (na
     go false u ht hu h = absurd (eqb-false _ _ ht h)
 
 -- numbers to bytes to numbers
-pub records_back_and_there : (s : List ℕ) → Words s → (room after : List ℕ) (n : ℕ) → WritePromise s room (Written.Length n) after
+pub records_back_and_there : (s : List ℕ) → Words s → (room after : List ℕ) (n : ℕ) → WritePromise s room (Ok n) after
     → (b rest : List ℕ) → after ≡ b ++ rest → length b ≡ n → (space : List ℕ) (w : Written) (out : List ℕ) → ReadPromise b space w out
-    → length s ≤ length space → (w ≡ Written.Length (length s)) × (out ≡ front_with s space)
+    → length s ≤ length space → (w ≡ Ok (length s)) × (out ≡ front_with s space)
 records_back_and_there s words room after n p b rest e m space w out q l =
-    let f = front_of_room _ 0 _ room (Written.Length n) after p n refl in
+    let f = front_of_room _ 0 _ room (Ok n) after p n refl in
     let h = written_fine s f.fine in
     let z = length_sized (most Kind.Data) width (length s) h.0 in
     let c : ℕ = length s / 4 in
@@ -141,4 +139,4 @@ records_back_and_there s words room after n p b rest e m space w out q l =
     let r = records_written s c words (omega (arith, z.even)) (omega (arith, z.even, z.some)) z.small h.1 in
     let x = fits_written _ 0 _ space w out (subst (λ (t : List ℕ). ReadPromise t space w out) same q) r.0
     (subst (λ (t : List ℕ). length t ≤ length space) (sym r.1) l) in
-    (x.0 ∙ ap (λ (t : List ℕ). Written.Length (length t)) r.1, x.1 ∙ ap (λ (t : List ℕ). front_with t space) r.1)
+    (x.0 ∙ ap (λ (t : List ℕ). Ok (length t)) r.1, x.1 ∙ ap (λ (t : List ℕ). front_with t space) r.1)

@@ -3,14 +3,13 @@
 --   TagsTwo k call after     every call is so
 --   ours_tags                whatever keeps our promise meets it
 --   shut_out_refusing, shut_out_fixed, shut_out_idle   refusing everything, one fixed answer, a call that does nothing
-use Rattle.std.specs.Prelude.{ℕ, zero, suc, ◌≤◌, ◌<◌, ◌≡◌, refl, true, List, [], ◌∷◌, length, get_or}
+use Rattle.std.specs.Prelude.{ℕ, zero, suc, ◌≤◌, ◌<◌, ◌≡◌, refl, true, List, [], ◌∷◌, length, get_or, Ok, Err}
 use Rattle.std.proofs.Common.{ap, ◌∙◌, sym, subst, arith}
 use Rattle.trees.specs.Tree.{none, whole}
 use Rattle.trees.specs.Signature.{signature}
 use Rattle.trees.specs.Tags.{tags_of}
 use Rattle.terms.specs.declared.Kind.{Kind}
 use Rattle.terms.specs.declared.Refusal.{Refusal}
-use Rattle.terms.specs.declared.Written.{Written}
 use Rattle.terms.specs.Kinds.{any_name, most}
 use Rattle.checked.specs.Menus.{single_tags}
 use Rattle.checked.specs.Apart.{answered_apart}
@@ -22,6 +21,7 @@ use Rattle.retold.specs.Taken.{Bytes, Taken}
 use Rattle.retold.specs.Rooms.{Case, refused, short, written, which, ten_given, refused_writes_nothing}
 use Rattle.retold.specs.Exact.{number, result, fine_taken, taken_fine, tags_signature}
 use Rattle.retold.specs.Numbers.{never_ten}
+use Rattle.terms.specs.Stops.{Written}
 
 -- the refusal of a room that is too small
 abbrev pub ten : Refusal
@@ -30,9 +30,9 @@ ten = record { number = 10; entry = record { 0 = 0 } }
 -- "Tag lists become signatures": the tree's signature where the room is long enough, 10 where it is not; other bytes are refused, and not for the room
 pub record Reads (k : Kind) (b room : List ℕ) (w : Written) (after : List ℕ) : Type 0 where
   pub fits : (y : Taken k b) → length (signature y.tree) ≤ length room
-      → (w ≡ Written.Length (length (signature y.tree))) × (after ≡ front_with (signature y.tree) room)
-  pub long : (y : Taken k b) → length room < length (signature y.tree) → (w ≡ Written.Refused ten) × (after ≡ room)
-  pub other : (Taken k b → ⊥) → (r : Refusal) × (w ≡ Written.Refused r) × (r.number ≡ 10 → ⊥) × (after ≡ room)
+      → (w ≡ Ok (length (signature y.tree))) × (after ≡ front_with (signature y.tree) room)
+  pub long : (y : Taken k b) → length room < length (signature y.tree) → (w ≡ Err ten) × (after ≡ room)
+  pub other : (Taken k b → ⊥) → (r : Refusal) × (w ≡ Err r) × (r.number ≡ 10 → ⊥) × (after ≡ room)
 
 -- demand 2 over any call, by what it answers and what it leaves
 abbrev pub TagsTwo : Kind → (List ℕ → List ℕ → Written) → (List ℕ → List ℕ → List ℕ) → Type 0
@@ -41,19 +41,19 @@ TagsTwo k call after = (b room : List ℕ) → Bytes b → Reads k b room (call 
 -- ---- ours meets it
 
 module _ (k : Kind) (b room : List ℕ) (w : Written) (after : List ℕ) (h : Bytes b) (p : TagsPromise k b room w after) where
-  is_long : (y : Taken k b) → length room < length (signature y.tree) → (w ≡ Written.Refused ten) × (after ≡ room)
+  is_long : (y : Taken k b) → length room < length (signature y.tree) → (w ≡ Err ten) × (after ≡ room)
   is_long y l =
       let f = taken_fine k b y in
       let q = ten_given (number k b) 0 (result k b) room w after p f.0 (subst (λ (x : List ℕ). length room < length x) (sym f.1) l) in
       (q, refused_writes_nothing (number k b) 0 (result k b) room w after p ten q)
 
-  is_other : (Taken k b → ⊥) → (r : Refusal) × (w ≡ Written.Refused r) × (r.number ≡ 10 → ⊥) × (after ≡ room)
+  is_other : (Taken k b → ⊥) → (r : Refusal) × (w ≡ Err r) × (r.number ≡ 10 → ⊥) × (after ≡ room)
   is_other n = go (which (number k b) 0 (result k b) room)
     where
-      go : Case (number k b) 0 (result k b) room → (r : Refusal) × (w ≡ Written.Refused r) × (r.number ≡ 10 → ⊥) × (after ≡ room)
+      go : Case (number k b) 0 (result k b) room → (r : Refusal) × (w ≡ Err r) × (r.number ≡ 10 → ⊥) × (after ≡ room)
       go (refused z e) =
           let r : Refusal = record { number = number k b; entry = record { 0 = 0 } } in
-          (r, answered_apart w (Written.Refused r) (p.told ∙ ap (λ (x : Left). x.answer) e), never_ten true (any_name k) (most k) b 0, p.left ∙ ap (λ (x : Left). x.room) e)
+          (r, answered_apart w (Err r) (p.told ∙ ap (λ (x : Left). x.answer) e), never_ten true (any_name k) (most k) b 0, p.left ∙ ap (λ (x : Left). x.room) e)
       go (short z l e) = absurd (n (fine_taken k b h z).0)
       go (written z l e) = absurd (n (fine_taken k b h z).0)
 
@@ -91,11 +91,11 @@ one_taken = record {
 nothing_taken : Taken Kind.Data [] → ⊥
 nothing_taken y = omega (arith, ap length y.is, tag_bytes_length (whole y.tree))
 
-apart : (l : ℕ) (r : Refusal) → Written.Length l ≡ Written.Refused r → ⊥
+apart : (l : ℕ) (r : Refusal) → Ok l ≡ Err r → ⊥
 apart l r e = let z : ◌≡◌ {A = ℕ} 0 1 = cc in omega arith
 
 -- refusing everything, each time as it likes, 10 too
-pub shut_out_refusing : (x : List ℕ → List ℕ → Refusal) (after : List ℕ → List ℕ → List ℕ) → TagsTwo Kind.Data (λ b room. Written.Refused (x b room)) after → ⊥
+pub shut_out_refusing : (x : List ℕ → List ℕ → Refusal) (after : List ℕ → List ℕ → List ℕ) → TagsTwo Kind.Data (λ b room. Err (x b room)) after → ⊥
 unfolding one_taken
 shut_out_refusing x after p = apart _ (x single_tags zeros) (sym ((p single_tags zeros one_bytes).fits one_taken (omega arith)).0)
 

@@ -6,18 +6,16 @@ use Rattle.std.specs.Prelude.{ℕ, ◌/◌, ◌<◌, ◌≡◌, refl, true, fals
 use Rattle.std.proofs.Common.{ap, ◌∙◌, sym, arith}
 use Rattle.std.proofs.Math.Decide.{ℕ_discrete}
 use Rattle.terms.specs.Kinds.{any_name, most}
-use Rattle.terms.specs.Stops.{Answered, answered}
+use Rattle.terms.specs.Stops.{Answered, answered, Written}
 use Rattle.checking.specs.Whole.{whole_of}
 use Rattle.checked.specs.Refusals.{one_not, whole_not_ten}
 use Rattle.terms.specs.declared.Kind.{Kind}
-use Rattle.terms.specs.declared.Written.{Written}
 use Rattle.bytes_read.specs.Scans.{halt_number}
 use Rattle.terms.specs.Room.{Left, left_by}
 use Rattle.bytes_read.proofs.Rooms.{short_is}
 use Rattle.records.specs.Records.{records_scan, numbers_from, bytes_from, write_fault, ReadPromise, WritePromise}
 use Rattle.tag_scan.specs.TagLists.{tree_scan, numbers_in}
-use Rattle.tag_lists.specs.declared.TreeRead.{TreeRead}
-use Rattle.tag_lists.specs.Readers.{read_told, TagsPromise, TreePromise}
+use Rattle.tag_lists.specs.Readers.{read_told, TagsPromise, TreePromise, TreeRead}
 use Rattle.tag_writing.specs.TagsBack.{back_bytes, BackPromise}
 use Rattle.retold.specs.Calls.{back_ten, back_unaccepted}
 use Rattle.retold.specs.Rooms.{Case, refused, short, written, which}

@@ -2,15 +2,14 @@
 --   back_written             what a tree yields is written as its tag list
 --   there_and_back           bytes read as numbers and written back are the same bytes
 --   back_and_there           numbers written as bytes and read back are the same numbers
-use Rattle.std.specs.Prelude.{ℕ, ◌≤◌, ◌≡◌, refl, List, length}
+use Rattle.std.specs.Prelude.{ℕ, ◌≤◌, ◌≡◌, refl, List, length, Ok}
 use Rattle.std.proofs.Common.{ap, ◌∙◌, sym, subst, eq-eqb}
 use Rattle.trees.specs.Tree.{Tree}
 use Rattle.trees.specs.Signature.{signature}
 use Rattle.trees.specs.Tags.{tree_tags}
-use Rattle.terms.specs.Stops.{Told}
+use Rattle.terms.specs.Stops.{Told, Written}
 use Rattle.checking.specs.Whole.{whole_of}
 use Rattle.terms.specs.declared.Kind.{Kind}
-use Rattle.terms.specs.declared.Written.{Written}
 use Rattle.checked.specs.Yields.{Yields}
 use Rattle.checked.specs.Wholly.{yields_accepted}
 use Rattle.terms.specs.Room.{left_by, front_with}
@@ -34,10 +33,10 @@ back_is k s y = ap (λ (t : Tree). tag_bytes (tree_tags t)) (tree_in_law s y.tre
 -- what a tree yields is written as the tree's tag list
 pub back_written : (k : Kind) (s : List ℕ) (y : Yields k s) (room : List ℕ) (w : Written) (after : List ℕ) → BackPromise k s room w after
     → length (tag_bytes (tree_tags y.tree)) ≤ length room
-    → (w ≡ Written.Length (length (tag_bytes (tree_tags y.tree)))) × (after ≡ front_with (tag_bytes (tree_tags y.tree)) room)
+    → (w ≡ Ok (length (tag_bytes (tree_tags y.tree)))) × (after ≡ front_with (tag_bytes (tree_tags y.tree)) room)
 back_written k s y room w after p l =
     let q = left_as _ _ w after (accepted_left k s room (ap (λ (t : Told). t.reason) (sym (yields_accepted k s y)))) p in
-    subst (λ (b : List ℕ). (w ≡ Written.Length (length b)) × (after ≡ front_with b room)) (back_is k s y)
+    subst (λ (b : List ℕ). (w ≡ Ok (length b)) × (after ≡ front_with b room)) (back_is k s y)
     (fits_written 0 0 (back_bytes s) room w after q refl (subst (λ (b : List ℕ). length b ≤ length room) (sym (back_is k s y)) l))
 
 -- and these bytes are taken
@@ -46,16 +45,16 @@ back_taken k s y = record { tree = y.tree; grown = y.grown; is = back_is k s y }
 
 -- numbers to bytes to numbers: what one call wrote, the other reads back as the same numbers
 pub back_and_there : (k : Kind) (s : List ℕ) → Yields k s → (room : List ℕ) (w : Written) (after : List ℕ) → TagsPromise k (back_bytes s) room w after
-    → length s ≤ length room → (w ≡ Written.Length (length s)) × (after ≡ front_with s room)
+    → length s ≤ length room → (w ≡ Ok (length s)) × (after ≡ front_with s room)
 unfolding back_taken
 back_and_there k s y room w after p l =
     let r = tags_signature k (back_bytes s) room w after p (back_taken k s y) (subst (λ (x : List ℕ). length x ≤ length room) y.is l) in
-    (r.0 ∙ ap (λ (x : List ℕ). Written.Length (length x)) (sym y.is), r.1 ∙ ap (λ (x : List ℕ). front_with x room) (sym y.is))
+    (r.0 ∙ ap (λ (x : List ℕ). Ok (length x)) (sym y.is), r.1 ∙ ap (λ (x : List ℕ). front_with x room) (sym y.is))
 
 -- bytes to numbers to bytes: the numbers that were read are a tree's signature, and are written back as the same bytes
 pub there_and_back : (k : Kind) (b : List ℕ) (y : Taken k b) → (room : List ℕ) (w : Written) (after : List ℕ)
-    → BackPromise k (signature y.tree) room w after → length b ≤ length room → (w ≡ Written.Length (length b)) × (after ≡ front_with b room)
+    → BackPromise k (signature y.tree) room w after → length b ≤ length room → (w ≡ Ok (length b)) × (after ≡ front_with b room)
 there_and_back k b y room w after p l =
-    subst (λ (x : List ℕ). (w ≡ Written.Length (length x)) × (after ≡ front_with x room)) (sym y.is)
+    subst (λ (x : List ℕ). (w ≡ Ok (length x)) × (after ≡ front_with x room)) (sym y.is)
     (back_written k (signature y.tree) (record { tree = y.tree; grown = y.grown; is = refl }) room w after p
     (subst (λ (x : List ℕ). length x ≤ length room) y.is l))

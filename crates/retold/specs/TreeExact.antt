@@ -3,7 +3,7 @@
 --   FineRead r               the verdict before room: a tree was read, or 10 was given
 --   tree_accepted_exactly    bytes are taken from a place on exactly if the tag list of a tree of the kind stands there
 --   tree_told                what is then written is the tree's signature, and the place is the one after its tag list
-use Rattle.std.specs.Prelude.{ℕ, ◌+◌, ◌*◌, ◌≤◌, ◌<◌, ◌≡◌, ◌⊎◌, false, List, ◌++◌, length, drop, eqb}
+use Rattle.std.specs.Prelude.{ℕ, ◌+◌, ◌*◌, ◌≤◌, ◌<◌, ◌≡◌, ◌⊎◌, false, List, ◌++◌, length, drop, eqb, Ok}
 use Rattle.std.proofs.Common.{ap, ◌∙◌, sym, subst, inl, inr, arith}
 use Rattle.turns.specs.Pick.{pick}
 use Rattle.trees.specs.Tree.{Tree, size, whole, Grown}
@@ -15,9 +15,8 @@ use Rattle.terms.specs.declared.Kind.{Kind}
 use Rattle.bytes_read.specs.Scans.{halt_number}
 use Rattle.terms.specs.Room.{Left, left_by, front_with}
 use Rattle.bytes_read.proofs.Rooms.{short_is, written_is}
-use Rattle.tag_lists.specs.declared.TreeRead.{TreeRead}
 use Rattle.tag_scan.specs.TagLists.{tag_bytes, tree_scan, numbers_in}
-use Rattle.tag_lists.specs.Readers.{read_told, ReadLeft, TreePromise}
+use Rattle.tag_lists.specs.Readers.{read_told, ReadLeft, TreePromise, TreeRead}
 use Rattle.tag_lists.proofs.Reading.{unread_by}
 use Rattle.retold.specs.Rooms.{reading_apart, Case, refused, short, written, which}
 use Rattle.retold.specs.Taken.{Bytes}
@@ -34,16 +33,16 @@ pub record Fronted (k : Kind) (b : List ℕ) (p : ℕ) : Type 0 where
 
 -- the verdict before room: a tree was read, or only the room was too small
 abbrev pub FineRead : TreeRead → Type 0
-FineRead r = ((l : ℕ) × ((end : ℕ) × (r ≡ TreeRead.Tree l end))) ⊎ (r ≡ unread_by 10)
+FineRead r = ((l : ℕ) × ((end : ℕ) × (r ≡ Ok (l, end)))) ⊎ (r ≡ unread_by 10)
 
 module _ (number end : ℕ) (result room : List ℕ) (r : TreeRead) (after : List ℕ) (g : ReadLeft number end result room r after) where
   -- a result that fits is written, and the place is told
-  pub read_written : number ≡ 0 → length result ≤ length room → (r ≡ TreeRead.Tree (length result) end) × (after ≡ front_with result room)
+  pub read_written : number ≡ 0 → length result ≤ length room → (r ≡ Ok ((length result), end)) × (after ≡ front_with result room)
   read_written h l =
       let e = written_is number 0 result room h l in
       let t = g.told ∙ ap (λ (x : Left). x.answer) e in
       let d = g.ended ∙ ap (λ (x : Left). pick (eqb x.answer.refused 0) end 0) e in
-      (reading_apart r (TreeRead.Tree (length result) end) (λ i. record { answer = t i; end = d i }), g.left ∙ ap (λ (x : Left). x.room) e)
+      (reading_apart r (Ok ((length result), end)) (λ i. record { answer = t i; end = d i }), g.left ∙ ap (λ (x : Left). x.room) e)
 
   pub read_short : number ≡ 0 → length room < length result → r ≡ unread_by 10
   read_short h l =
@@ -109,11 +108,11 @@ module _ (k : Kind) (b : List ℕ) (p : ℕ) where
 
     -- what is written is the tree's signature, and the place is the one after its tag list
     pub tree_told : (y : Fronted k b p) → length (signature y.tree) ≤ length room
-        → (r ≡ TreeRead.Tree (length (signature y.tree)) (p + 6 * size (whole y.tree))) × (after ≡ front_with (signature y.tree) room)
+        → (r ≡ Ok ((length (signature y.tree)), (p + 6 * size (whole y.tree)))) × (after ≡ front_with (signature y.tree) room)
     tree_told y l =
         let e = result_is y in
         let x = read_written number _ result room r after g (scanned y).number_is (subst (λ (s : List ℕ). length s ≤ length room) (sym e) l) in (
-          x.0 ∙ ap (λ (s : List ℕ). TreeRead.Tree (length s) (tree_scan false (any_name k) (most k) b p).state.at) e
+          x.0 ∙ ap (λ (s : List ℕ). Ok ((length s), (tree_scan false (any_name k) (most k) b p)).state.at) e
               ∙ ap (TreeRead.Tree (length (signature y.tree))) (scanned y).at_is,
           x.1 ∙ ap (λ (s : List ℕ). front_with s room) e,
         )

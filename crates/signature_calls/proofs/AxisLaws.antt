@@ -1,12 +1,9 @@
 -- Level, block and axes: what is said stands for what the call answers.
 use Prim.Native.Nat.{ℕ}
 use mathlib.Core.List.{List, [], ◌∷◌}
-use Rattle.terms.specs.declared.Written.{Written}
-use Rattle.terms.specs.Stops.{answered}
-use Rattle.blocks.specs.declared.LevelAnswer.{LevelAnswer}
-use Rattle.blocks.specs.declared.PlaceAnswer.{PlaceAnswer}
-use Rattle.blocks.specs.Level.{Leveled, LevelPromise}
-use Rattle.blocks.specs.Block.{Placed, PlacePromise}
+use Rattle.terms.specs.Stops.{answered, Written}
+use Rattle.blocks.specs.Level.{Leveled, LevelPromise, LevelAnswer}
+use Rattle.blocks.specs.Block.{Placed, PlacePromise, PlaceAnswer}
 use Rattle.marks.specs.Axis.{AxisPromise}
 use Rattle.telling.specs.Numbers.{AnswerTold}
 use Rattle.telling.specs.Answers.{LevelSaid, PlaceSaid}

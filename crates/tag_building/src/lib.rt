@@ -8,7 +8,7 @@ ghost use Rattle.bytes_read.specs.Bytes.{number_at};
 ghost use Rattle.tag_building.specs.Filled.{FilledPromise, BuiltPromise};
 ghost use Rattle.tag_building.specs.Builds.{open_room, close_room, parent_in};
 
-use terms::Kind;
+use terms::{Fault, Kind};
 
 // What reading came to: the refusal's number, or 0, the place where it stands, and the elements read.
 #[derive(Clone, Copy)]
@@ -101,7 +101,7 @@ fn give_front(own: &[u16], len: usize, room: &mut [u16]) -> u16
     ensures { (result ≡ (left_by 0 0 (take len own.now) room.old).answer.number) × (room.new ≡ (left_by 0 0 (take len own.now) room.old).room) }
 {
     if room.len() < len {
-        return terms::NO_ROOM;
+        return Fault::NoRoom;
     }
     let mut i: usize = 0;
     while i < len {

@@ -1,6 +1,7 @@
 -- The answers of the two readers: which case of the promise holds.
 --   tree_unread, tree_read         the two answers of the reader of one tree
 --   tags_refused, tags_written     the two answers of the reader of a whole list
+use Rattle.std.specs.Prelude.{Ok, Err}
 use Prim.Native.Nat.{ℕ, ◌≤◌}
 use mathlib.Core.Path.{◌≡◌, refl, ap, ◌∙◌, sym}
 use mathlib.Core.Bool.{true, false}
@@ -10,14 +11,12 @@ use native.Mathlib.Decide.{ℕ_discrete, dec_le}
 use lib.ListN.{length}
 use lib.Dec.{eqb}
 use Rattle.turns.specs.Pick.{pick}
-use Rattle.terms.specs.Stops.{Answered, answered, worked, refused_as}
+use Rattle.terms.specs.Stops.{Answered, answered, worked, refused_as, Written}
 use Rattle.terms.specs.declared.Kind.{Kind}
-use Rattle.terms.specs.declared.Written.{Written}
 use Rattle.terms.specs.Room.{Left, left_by}
 use Rattle.bytes_read.proofs.Rooms.{refused_by, refused_is, short_is, written_is}
 use Rattle.tag_building.specs.Filled.{Filled, FilledPromise}
-use Rattle.tag_lists.specs.declared.TreeRead.{TreeRead}
-use Rattle.tag_lists.specs.Readers.{read_told, ReadLeft, TreePromise, TagsPromise}
+use Rattle.tag_lists.specs.Readers.{read_told, ReadLeft, TreePromise, TagsPromise, TreeRead}
 
 -- the number of an answer tells it
 module _ (number : ℕ) (result room : List ℕ) (g : ℕ) (is : g ≡ (left_by number 0 result room).answer.number) where
@@ -44,7 +43,7 @@ module _ (number : ℕ) (result room : List ℕ) (g : ℕ) (is : g ≡ (left_by 
 
 -- a refusal of a reading by its number
 abbrev pub unread_by : ℕ → TreeRead
-unread_by number = TreeRead.Refused (record { number = number; entry = record { 0 = 0 } })
+unread_by number = Err (record { number = number; entry = record { 0 = 0 } })
 
 -- the answers: g, at and l are what reading into the room came to
 module _ (number end size : ℕ) (result room : List ℕ) (g at l : ℕ) (after : List ℕ) (h : Filled number end size result room g at l after) where
@@ -56,27 +55,27 @@ module _ (number end size : ℕ) (result room : List ℕ) (g at l : ℕ) (after 
   left_refused r q n =
       read_as r _ (answer_refused number result room g h.told n) (ap (λ (x : TreeRead). (read_told x).answer) q) (ap (λ (x : TreeRead). (read_told x).end) q)
 
-  left_done : (r : TreeRead) → r ≡ TreeRead.Tree l at → g ≡ 0 → ReadLeft number end result room r after
+  left_done : (r : TreeRead) → r ≡ Ok (l, at) → g ≡ 0 → ReadLeft number end result room r after
   left_done r q z =
-      let e = q ∙ ap (λ (x : ℕ). TreeRead.Tree x at) (h.long z) ∙ ap (TreeRead.Tree (length result)) h.ended in
+      let e = q ∙ ap (λ (x : ℕ). Ok (x, at)) (h.long z) ∙ ap (TreeRead.Tree (length result)) h.ended in
       read_as r _ (answer_worked number result room g h.told z) (ap (λ (x : TreeRead). (read_told x).answer) e) (ap (λ (x : TreeRead). (read_told x).end) e)
 
   told_refused : (w : Written) → w ≡ refused_by g 0 → (g ≡ 0 → ⊥) → answered w ≡ (left_by number 0 result room).answer
   told_refused w q n = ap answered q ∙ sym (answer_refused number result room g h.told n)
 
-  told_written : (w : Written) → w ≡ Written.Length l → g ≡ 0 → answered w ≡ (left_by number 0 result room).answer
+  told_written : (w : Written) → w ≡ Ok l → g ≡ 0 → answered w ≡ (left_by number 0 result room).answer
   told_written w q z = ap answered q ∙ ap (λ (x : ℕ). worked x) (h.long z) ∙ sym (answer_worked number result room g h.told z)
 
 module _ (k : Kind) (b : List ℕ) (p : ℕ) (room : List ℕ) (g at l : ℕ) (after : List ℕ) where
   pub tree_unread : FilledPromise false k b p room g at l after → (r : TreeRead) → r ≡ unread_by g → (g ≡ 0 → ⊥) → TreePromise k b p room r after
   tree_unread h r q n = left_refused _ _ _ _ _ g at l after h r q n
 
-  pub tree_read : FilledPromise false k b p room g at l after → (r : TreeRead) → r ≡ TreeRead.Tree l at → g ≡ 0 → TreePromise k b p room r after
+  pub tree_read : FilledPromise false k b p room g at l after → (r : TreeRead) → r ≡ Ok (l, at) → g ≡ 0 → TreePromise k b p room r after
   tree_read h r q z = left_done _ _ _ _ _ g at l after h r q z
 
 module _ (k : Kind) (b : List ℕ) (room : List ℕ) (g at l : ℕ) (after : List ℕ) (h : FilledPromise true k b 0 room g at l after) where
   pub tags_refused : (w : Written) → w ≡ refused_by g 0 → (g ≡ 0 → ⊥) → TagsPromise k b room w after
   tags_refused w q n = record { told = told_refused _ _ _ _ _ g at l after h w q n; left = h.left }
 
-  pub tags_written : (w : Written) → w ≡ Written.Length l → g ≡ 0 → TagsPromise k b room w after
+  pub tags_written : (w : Written) → w ≡ Ok l → g ≡ 0 → TagsPromise k b room w after
   tags_written w q z = record { told = told_written _ _ _ _ _ g at l after h w q z; left = h.left }

@@ -2,16 +2,15 @@
 --   tags_left, TagsPromise  one whole tag list
 --   TreePromise            one tree from a place on
 --   ReadTold, read_told     what reading a tree answers, in numbers
-use Rattle.std.specs.Prelude.{ℕ, ◌≡◌, Bool, true, false, List, eqb}
+use Rattle.std.specs.Prelude.{ℕ, ◌≡◌, Bool, true, false, List, eqb, Ok, Err, Result}
 use Rattle.turns.specs.Pick.{pick}
 use Rattle.terms.specs.Kinds.{any_name, most}
-use Rattle.terms.specs.Stops.{Answered, worked, refused_as}
+use Rattle.terms.specs.Stops.{Answered, worked, refused_as, Written}
 use Rattle.terms.specs.declared.Kind.{Kind}
-use Rattle.terms.specs.declared.Written.{Written}
 use Rattle.bytes_read.specs.Scans.{halt_number}
 use Rattle.terms.specs.Room.{Left, left_by, Leaves}
 use Rattle.tag_scan.specs.TagLists.{tree_scan, numbers_in}
-use Rattle.tag_lists.specs.declared.TreeRead.{TreeRead}
+use Rattle.terms.specs.declared.Refusal.{Refusal}
 
 -- what reading one whole tag list answers and leaves
 abbrev pub tags_left : Kind → List ℕ → List ℕ → Left
@@ -27,10 +26,14 @@ pub record ReadTold : Type 0 where
   pub answer : Answered
   pub end : ℕ
 
+-- what reading one tree from a place on answers: how many numbers it wrote and the place after the close of the root, or the refusal
+abbrev pub TreeRead : Type 0
+TreeRead = Result (ℕ × ℕ) Refusal
+
 -- what a reading of one tree answers, in numbers
 abbrev pub read_told : TreeRead → ReadTold
-read_told (TreeRead.Tree l end) = record { answer = worked l; end = end }
-read_told (TreeRead.Refused r) = record { answer = refused_as r.number r.entry.0; end = 0 }
+read_told (Ok (l, end)) = record { answer = worked l; end = end }
+read_told (Err r) = record { answer = refused_as r.number r.entry.0; end = 0 }
 
 -- what a reading answers and leaves
 pub record ReadLeft (number end : ℕ) (result room : List ℕ) (r : TreeRead) (after : List ℕ) : Type 0 where

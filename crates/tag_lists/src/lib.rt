@@ -5,43 +5,36 @@ ghost use Rattle.std.specs.Prelude.{◌≡◌};
 ghost use Rattle.tag_lists.specs.Readers.{TagsPromise, TreePromise};
 
 use tag_building::read_tags;
-use terms::{Kind, PreRank, Refusal, Written};
-
-// What reading one tree from a place on answers: how many numbers it wrote and the place after the close of the root, or the refusal.
-#[derive(Clone, Copy)]
-pub enum TreeRead {
-    Tree(usize, usize),
-    Refused(Refusal),
-}
+use terms::{Kind, PreRank, Refusal};
 
 // A refusal of a reading, which names no entry.
-fn unread(number: u16) -> TreeRead
+fn unread(number: u16) -> Result<(usize, usize), Refusal>
     ensures { result ≡ TreeRead.Refused (record { number = number; entry = record { 0 = 0 } }) }
 {
-    TreeRead::Refused(Refusal {
+    Err(Refusal {
         number,
         entry: PreRank(0),
     })
 }
 
 // Reads one tree of a kind from a place of the bytes on into the room, and says where it ended.
-pub fn read_tree(kind: Kind, bytes: &[u8], from: usize, room: &mut [u16]) -> TreeRead
+pub fn read_tree(kind: Kind, bytes: &[u8], from: usize, room: &mut [u16]) -> Result<(usize, usize), Refusal>
     ensures { TreePromise kind bytes.now from room.old result room.new }
 {
     let got = read_tags(kind, bytes, false, from, room);
     if got.fault != 0 {
         return unread(got.fault);
     }
-    TreeRead::Tree(4 * (got.count as usize), got.at)
+    Ok((4 * (got.count as usize), got.at))
 }
 
 // Reads one whole tag list of a kind of tree into the room.
-pub fn tags_to_signature(kind: Kind, bytes: &[u8], room: &mut [u16]) -> Written
+pub fn tags_to_signature(kind: Kind, bytes: &[u8], room: &mut [u16]) -> Result<usize, Refusal>
     ensures { TagsPromise kind bytes.now room.old result room.new }
 {
     let got = read_tags(kind, bytes, true, 0, room);
     if got.fault != 0 {
         return bytes_read::refused(got.fault);
     }
-    Written::Length(4 * (got.count as usize))
+    Ok(4 * (got.count as usize))
 }

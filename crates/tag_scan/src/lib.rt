@@ -35,11 +35,11 @@ fn first_fault(nameless: bool, misnested: bool, over: bool) -> u16
     ensures { result ≡ first_fault false false false nameless misnested over }
 {
     if nameless {
-        terms::NAMELESS
+        Fault::Nameless
     } else if misnested {
-        terms::BAD_NESTING
+        Fault::BadNesting
     } else if over {
-        terms::TOO_MANY
+        Fault::TooMany
     } else {
         0
     }
@@ -58,7 +58,7 @@ fn open_fault(bytes: &[u8], any_name: bool, most: u16, at: usize, depth: u16, co
     ensures { result ≡ tag_fault any_name most bytes.now (record { at = at; depth = depth; count = count }) }
 {
     if bytes.len() - at < 4 {
-        return terms::CUT;
+        return Fault::Cut;
     }
     let nameless = is_nameless(bytes, any_name, at);
     let misnested = is_root_closed(depth, count);
@@ -72,23 +72,23 @@ pub fn tag_fault(bytes: &[u8], any_name: bool, most: u16, at: usize, depth: u16,
 {
     if bytes.len() <= at {
         if 0 < count {
-            return terms::BAD_NESTING;
+            return Fault::BadNesting;
         }
-        return terms::CUT;
+        return Fault::Cut;
     }
     if bytes.len() - at < 2 {
-        return terms::CUT;
+        return Fault::Cut;
     }
     if bytes_read::is_marked(bytes, at, 79, 80) {
         return open_fault(bytes, any_name, most, at, depth, count);
     }
     if bytes_read::is_marked(bytes, at, 67, 76) {
         if depth == 0 {
-            return terms::BAD_NESTING;
+            return Fault::BadNesting;
         }
         return 0;
     }
-    terms::UNKNOWN_MARK
+    Fault::UnknownMark
 }
 
 // Whether a tree is read: to the end of the bytes where the whole of them is asked for.

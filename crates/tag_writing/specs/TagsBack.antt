@@ -11,9 +11,9 @@ use Rattle.trees.specs.Signature.{Entries, cell, entries_of, width, entries}
 use Rattle.trees.specs.Tags.{tree_tags}
 use Rattle.checking.specs.Whole.{whole_of}
 use Rattle.terms.specs.declared.Kind.{Kind}
-use Rattle.terms.specs.declared.Written.{Written}
 use Rattle.terms.specs.Room.{Left, refused_left, left_by, Leaves}
 use Rattle.tag_scan.specs.TagLists.{tag_bytes}
+use Rattle.terms.specs.Stops.{Written}
 
 -- an entry's block is what is below it, and the row goes on where the block ends
 unfoldable pub row_from : Entries → ℕ → ℕ → ℕ → Forest

@@ -9,7 +9,7 @@ ghost use Rattle.bytes_read.specs.Bytes.{low, high};
 ghost use Rattle.terms.specs.Room.{front_with, left_by, Leaves};
 ghost use Rattle.tag_writing.specs.TagsBack.{back_bytes, ends_at, BackPromise};
 
-use terms::{Kind, PreRank, Verdict, Written};
+use terms::{Fault, Kind, PreRank, Refusal};
 
 // Writes an `OP` and a name at a place of the room.
 fn put_open(room: &mut [u8], at: usize, name: u16)
@@ -73,25 +73,25 @@ fn write_tags(sig: &[u16], count: u16, room: &mut [u8])
 }
 
 // Writes the tag list of a tree's signature, if the room is long enough.
-fn write_back(sig: &[u16], room: &mut [u8]) -> Written
+fn write_back(sig: &[u16], room: &mut [u8]) -> Result<usize, Refusal>
     requires { (t : Tree) × (sig.now ≡ signature t) × (size (whole t) ≤ 4096) }
     ensures { Leaves (left_by 0 0 (back_bytes sig.now) room.old) result room.new }
 {
     let size = sig.len() / 4;
     if room.len() / 6 < size {
-        return bytes_read::refused(terms::NO_ROOM);
+        return bytes_read::refused(Fault::NoRoom);
     }
     write_tags(sig, size as u16, room);
-    Written::Length(6 * size)
+    Ok(6 * size)
 }
 
 // Writes a signature of a kind of tree as a tag list into the room.
-pub fn signature_to_tags(kind: Kind, sig: &[u16], room: &mut [u8]) -> Written
+pub fn signature_to_tags(kind: Kind, sig: &[u16], room: &mut [u8]) -> Result<usize, Refusal>
     ensures { BackPromise kind sig.now room.old result room.new }
 {
     let verdict = checking::check_whole(kind, sig);
     match verdict {
-        Verdict::Accepted => write_back(sig, room),
-        Verdict::Refused(refusal) => Written::Refused(refusal),
+        Ok(()) => write_back(sig, room),
+        Err(refusal) => Err(refusal),
     }
 }

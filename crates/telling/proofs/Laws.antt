@@ -5,14 +5,10 @@ use mathlib.Core.List.{List, [], ◌∷◌}
 use borrow.Author.Tests.{eq-eqb, ne_eqb}
 use Rattle.terms.specs.declared.Kind.{Kind}
 use Rattle.terms.specs.declared.Stop.{Stop}
-use Rattle.terms.specs.declared.Written.{Written}
-use Rattle.terms.specs.Stops.{Told, told, Answered, answered}
-use Rattle.blocks.specs.declared.LevelAnswer.{LevelAnswer}
-use Rattle.blocks.specs.declared.PlaceAnswer.{PlaceAnswer}
-use Rattle.blocks.specs.Level.{level_told}
-use Rattle.blocks.specs.Block.{place_told}
-use Rattle.preparing.specs.declared.Started.{Started}
-use Rattle.preparing.specs.PrepTurn.{start_told}
+use Rattle.terms.specs.Stops.{Told, told, Answered, answered, Written}
+use Rattle.blocks.specs.Level.{level_told, LevelAnswer}
+use Rattle.blocks.specs.Block.{place_told, PlaceAnswer}
+use Rattle.preparing.specs.PrepTurn.{start_told, Started}
 use Rattle.telling.specs.Numbers.{kind_of, out_of, Says, TurnTold, AnswerTold}
 use Rattle.telling.specs.Answers.{LevelSaid, PlaceSaid, StartSaid}
 

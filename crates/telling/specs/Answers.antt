@@ -2,12 +2,9 @@
 --   LeveledSays l r out, PlacedSays p r out, FreshSays f r out   these numbers are returned and stand in out
 --   LevelSaid a r out, PlaceSaid a r out, StartSaid a r out      the same of an answer of the call
 use Rattle.std.specs.Prelude.{ℕ, List, [], ◌∷◌}
-use Rattle.blocks.specs.declared.LevelAnswer.{LevelAnswer}
-use Rattle.blocks.specs.declared.PlaceAnswer.{PlaceAnswer}
-use Rattle.blocks.specs.Level.{Leveled, level_told}
-use Rattle.blocks.specs.Block.{Placed, place_told}
-use Rattle.preparing.specs.declared.Started.{Started}
-use Rattle.preparing.specs.PrepTurn.{Fresh, start_told}
+use Rattle.blocks.specs.Level.{Leveled, level_told, LevelAnswer}
+use Rattle.blocks.specs.Block.{Placed, place_told, PlaceAnswer}
+use Rattle.preparing.specs.PrepTurn.{Fresh, start_told, Started}
 use Rattle.telling.specs.Numbers.{Says}
 
 -- a level or its refusal: the refusal's number is returned, or 0, and out takes level, entry

@@ -5,12 +5,11 @@
 --   CheckSaid t r left out, PrepareSaid t r left out   what a turn hands back, as the number returned, the state and out tell it
 use Rattle.std.specs.Prelude.{ℕ, ◌≡◌, List, [], ◌∷◌, get_or}
 use Rattle.checking.specs.declared.CheckState.{CheckState}
-use Rattle.checking.specs.declared.CheckTurn.{CheckTurn}
 use Rattle.checking.specs.Rule.{at}
 use Rattle.terms.specs.Stops.{told}
 use Rattle.preparing.specs.declared.Prep.{Prep}
-use Rattle.preparing.specs.declared.PrepTurn.{PrepTurn}
 use Rattle.telling.specs.Numbers.{TurnTold}
+use Rattle.terms.specs.declared.Turn.{Turn}
 
 -- "State: next entry i, innermost open element top (0 for none), number closed."
 abbrev pub check_state_of : List ℕ → CheckState
@@ -25,11 +24,11 @@ abbrev pub prepare_numbers : Prep → List ℕ
 prepare_numbers st = st.next.0 ∷ []
 
 -- a turn of the check, as the number returned, the state and out tell it
-pub record CheckSaid (t : CheckTurn) (r : ℕ) (left out : List ℕ) : Type 0 where
+pub record CheckSaid (t : Turn CheckState) (r : ℕ) (left out : List ℕ) : Type 0 where
   pub says : TurnTold (told t.stop) t.steps r out
   pub state : left ≡ check_numbers t.state
 
 -- a turn of preparing, as the number returned, the state and out tell it
-pub record PrepareSaid (t : PrepTurn) (r : ℕ) (left out : List ℕ) : Type 0 where
+pub record PrepareSaid (t : Turn Prep) (r : ℕ) (left out : List ℕ) : Type 0 where
   pub says : TurnTold (told t.stop) t.steps r out
   pub state : left ≡ prepare_numbers t.state

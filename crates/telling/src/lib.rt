@@ -9,10 +9,10 @@ ghost use Rattle.telling.specs.Numbers.{kind_of, TurnTold, AnswerTold};
 ghost use Rattle.telling.specs.Answers.{LevelSaid, PlaceSaid, StartSaid};
 ghost use Rattle.telling.specs.States.{check_state_of, CheckSaid, PrepareSaid};
 
-use blocks::{LevelAnswer, PlaceAnswer};
-use checking::{CheckState, CheckTurn};
-use preparing::{Prep, PrepTurn, Started};
-use terms::{Kind, PostRank, PreRank, Stop, Written};
+
+use checking::CheckState;
+use preparing::Prep;
+use terms::{Kind, PostRank, PreRank, Refusal, Stop, Turn};
 
 // The kind of tree that a number names: 0 a data tree, any other number a twig.
 pub fn kind_of(kind: u16) -> Kind
@@ -47,16 +47,16 @@ pub fn tell_stop(stop: Stop, steps: u64, out: &mut [u64; 3]) -> u16
 }
 
 // Puts the length of a result and the entry that a refusal names into out, and gives the refusal's number, or 0.
-pub fn tell_written(answer: Written, out: &mut [u64; 2]) -> u16
+pub fn tell_written(answer: Result<usize, Refusal>, out: &mut [u64; 2]) -> u16
     ensures { AnswerTold (answered answer) result out.new }
 {
     match answer {
-        Written::Length(length) => {
+        Ok(length) => {
             let written = length as u64;
             *out = [written, 0];
             0
         }
-        Written::Refused(refusal) => {
+        Err(refusal) => {
             let entry = refusal.entry.0 as u64;
             *out = [0, entry];
             refusal.number
@@ -65,16 +65,16 @@ pub fn tell_written(answer: Written, out: &mut [u64; 2]) -> u16
 }
 
 // The same of a level.
-pub fn tell_level(answer: LevelAnswer, out: &mut [u64; 2]) -> u16
+pub fn tell_level(answer: Result<u16, Refusal>, out: &mut [u64; 2]) -> u16
     ensures { LevelSaid answer result out.new }
 {
     match answer {
-        LevelAnswer::Level(level) => {
+        Ok(level) => {
             let count = level as u64;
             *out = [count, 0];
             0
         }
-        LevelAnswer::Refused(refusal) => {
+        Err(refusal) => {
             let entry = refusal.entry.0 as u64;
             *out = [0, entry];
             refusal.number
@@ -83,17 +83,17 @@ pub fn tell_level(answer: LevelAnswer, out: &mut [u64; 2]) -> u16
 }
 
 // The same of the place of a block.
-pub fn tell_place(answer: PlaceAnswer, out: &mut [u64; 3]) -> u16
+pub fn tell_place(answer: Result<(usize, usize), Refusal>, out: &mut [u64; 3]) -> u16
     ensures { PlaceSaid answer result out.new }
 {
     match answer {
-        PlaceAnswer::Numbers(first, count) => {
+        Ok((first, count)) => {
             let place = first as u64;
             let length = count as u64;
             *out = [place, length, 0];
             0
         }
-        PlaceAnswer::Refused(refusal) => {
+        Err(refusal) => {
             let entry = refusal.entry.0 as u64;
             *out = [0, 0, entry];
             refusal.number
@@ -102,16 +102,16 @@ pub fn tell_place(answer: PlaceAnswer, out: &mut [u64; 3]) -> u16
 }
 
 // The same of the start of preparing.
-pub fn tell_start(answer: Started, out: &mut [u64; 1]) -> u16
+pub fn tell_start(answer: Result<Prep, Refusal>, out: &mut [u64; 1]) -> u16
     ensures { StartSaid answer result out.new }
 {
     match answer {
-        Started::Fresh(state) => {
+        Ok(state) => {
             let next = state.next.0 as u64;
             *out = [next];
             0
         }
-        Started::Refused(refusal) => {
+        Err(refusal) => {
             *out = [0];
             refusal.number
         }
@@ -130,7 +130,7 @@ pub fn check_of(l: [u16; 3]) -> CheckState
 }
 
 // Puts the state that a turn of the check leaves back into three numbers, and tells what stopped it.
-pub fn tell_check(turned: CheckTurn, state: &mut [u16; 3], out: &mut [u64; 3]) -> u16
+pub fn tell_check(turned: Turn<CheckState>, state: &mut [u16; 3], out: &mut [u64; 3]) -> u16
     ensures { CheckSaid turned result state.new out.new }
 {
     let after = turned.state;
@@ -152,7 +152,7 @@ pub fn prepare_of(l: [u16; 1]) -> Prep
 }
 
 // Puts the state that a turn of preparing leaves back into its number, and tells what stopped it.
-pub fn tell_prepare(turned: PrepTurn, state: &mut [u16; 1], out: &mut [u64; 3]) -> u16
+pub fn tell_prepare(turned: Turn<Prep>, state: &mut [u16; 1], out: &mut [u64; 3]) -> u16
     ensures { PrepareSaid turned result state.new out.new }
 {
     let after = turned.state;

@@ -7,8 +7,7 @@
 --   Leaves x w after             the answer and the room at exit are those of x
 use Rattle.std.specs.Prelude.{ℕ, ◌≡◌, List, ◌++◌, length, drop, leb, eqb}
 use Rattle.turns.specs.Pick.{pick}
-use Rattle.terms.specs.Stops.{Answered, answered, worked, refused_as}
-use Rattle.terms.specs.declared.Written.{Written}
+use Rattle.terms.specs.Stops.{Answered, Written, answered, worked, refused_as}
 
 -- what a call answers and leaves
 pub record Left : Type 0 where

@@ -3,6 +3,7 @@
 
 ghost use Rattle.std.specs.Prelude.{◌≡◌};
 ghost use Rattle.trees.specs.Signature.{width};
+ghost use Rattle.terms.specs.Faults.{number_of, unentered, tested};
 ghost use Rattle.terms.specs.Kinds.{any_name, most};
 ghost use Rattle.terms.specs.Length.{length_fault};
 
@@ -14,36 +15,63 @@ pub struct PreRank(pub u16);
 #[derive(Clone, Copy)]
 pub struct PostRank(pub u16);
 
-// Document 01's refusal numbers. They are constants and no enum, because later numbers must break no match.
-pub const CUT: u16 = 1;
+// Document 01's faults, in the order of their numbers. Only `number` looks at all of them, so that a later one breaks no other match.
+#[derive(Clone, Copy)]
+pub enum Fault {
+    Cut,
+    UnknownMark,
+    Nameless,
+    NotOpen,
+    WrongPost,
+    WrongFf,
+    TooMany,
+    BadArgument,
+    BadState,
+    NoRoom,
+    BadPointer,
+    BadNesting,
+}
 
-pub const UNKNOWN_MARK: u16 = 2;
+impl Fault {
+    // The number that document 01 gives it.
+    pub fn number(self) -> u16
+        ensures { result ≡ number_of self }
+    {
+        match self {
+            Fault::Cut => 1,
+            Fault::UnknownMark => 2,
+            Fault::Nameless => 3,
+            Fault::NotOpen => 4,
+            Fault::WrongPost => 5,
+            Fault::WrongFf => 6,
+            Fault::TooMany => 7,
+            Fault::BadArgument => 8,
+            Fault::BadState => 9,
+            Fault::NoRoom => 10,
+            Fault::BadPointer => 11,
+            Fault::BadNesting => 12,
+        }
+    }
+}
 
-pub const NAMELESS: u16 = 3;
-
-pub const NOT_OPEN: u16 = 4;
-
-pub const WRONG_POST: u16 = 5;
-
-pub const WRONG_FF: u16 = 6;
-
-pub const TOO_MANY: u16 = 7;
-
-pub const BAD_ARGUMENT: u16 = 8;
-
-pub const BAD_STATE: u16 = 9;
-
-pub const NO_ROOM: u16 = 10;
-
-pub const BAD_POINTER: u16 = 11;
-
-pub const BAD_NESTING: u16 = 12;
-
-// A refusal: its number, and the entry that it names, or 0.
+// A refusal as it is told: its number, and the entry that it names, or 0. The number is no `Fault`: `told_stop` of checked/specs/Apart speaks of every
+// number, and the demands over any call must rule out a program that invents one.
 #[derive(Clone, Copy)]
 pub struct Refusal {
     pub number: u16,
     pub entry: PreRank,
+}
+
+impl From<Fault> for Refusal {
+    ghost from_gives = { λ f r. r ≡ unentered f };
+
+    // A refusal that names no entry.
+    fn from(fault: Fault) -> Refusal {
+        Refusal {
+            number: fault.number(),
+            entry: PreRank(0),
+        }
+    }
 }
 
 // What stopped a turn.
@@ -55,25 +83,19 @@ pub enum Stop {
     Refused(Refusal),
 }
 
+// What a turn hands back: the saved state after its last step, how many steps it took, and what stopped it.
+#[derive(Clone, Copy)]
+pub struct Turn<S> {
+    pub state: S,
+    pub steps: u64,
+    pub stop: Stop,
+}
+
 // The two kinds of tree: they differ in their greatest size and in whether name 0 is allowed.
 #[derive(Clone, Copy)]
 pub enum Kind {
     Data,
     Twig,
-}
-
-// What the whole check says of a signature.
-#[derive(Clone, Copy)]
-pub enum Verdict {
-    Accepted,
-    Refused(Refusal),
-}
-
-// What a single call that writes into lent room answers: how long the result is, in the room's units, or the refusal.
-#[derive(Clone, Copy)]
-pub enum Written {
-    Length(usize),
-    Refused(Refusal),
 }
 
 impl Kind {
@@ -98,15 +120,15 @@ impl Kind {
     }
 }
 
-// The refusal of a signature of len numbers by its length alone, or 0.
-pub fn length_fault(kind: Kind, len: usize) -> u16
-    ensures { result ≡ length_fault (most kind) width len }
+// The refusal of a signature of len numbers by its length alone.
+pub fn test_length(kind: Kind, len: usize) -> Result<(), Fault>
+    ensures { tested result ≡ length_fault (most kind) width len }
 {
     if (len == 0) | (len % 4 != 0) {
-        CUT
+        Err(Fault::Cut)
     } else if (kind.most() as usize) < len / 4 {
-        TOO_MANY
+        Err(Fault::TooMany)
     } else {
-        0
+        Ok(())
     }
 }

@@ -2,7 +2,7 @@
 use crate::fields::wide;
 use std::io;
 use std::io::Write;
-use terms::{Refusal, Stop, Written};
+use terms::{Refusal, Stop};
 
 // Bytes as they are: a label need not be text.
 pub fn text(out: &mut impl Write, bytes: &[u8]) -> io::Result<()> {
@@ -33,13 +33,13 @@ pub fn refused(out: &mut impl Write, refusal: Refusal) -> io::Result<()> {
 }
 
 // What a call that writes into a room answers.
-pub fn told(out: &mut impl Write, answer: Written) -> io::Result<()> {
+pub fn told(out: &mut impl Write, answer: Result<usize, Refusal>) -> io::Result<()> {
     match answer {
-        Written::Length(len) => {
+        Ok(len) => {
             text(out, b" length")?;
             number(out, len as u64)
         }
-        Written::Refused(refusal) => refused(out, refusal),
+        Err(refusal) => refused(out, refusal),
     }
 }
 

@@ -10,12 +10,8 @@ mod told_entries;
 
 use std::io;
 use std::io::{BufWriter, Write};
-use terms::Written;
 use told_entries::entries_told;
-use trial_lines::{
-    field, front, line_of, number, numbers, numbers_into, read_cases, refused, room_left, text,
-    told, tree_into, wide,
-};
+use trial_lines::{field, front, line_of, number, numbers, numbers_into, read_cases, refused, room_left, text, told, tree_into, wide};
 
 // What is tried, as words of a line.
 const ALL: u16 = 97;
@@ -38,8 +34,8 @@ fn from_one(
     let mut room = [0u16; 10];
     let answer = axes::axis(sig, &[context], axis, name, position, &mut room);
     match answer {
-        Written::Length(len) => numbers(out, front(&room, len))?,
-        Written::Refused(refusal) => refused(out, refusal)?,
+        Ok(len) => numbers(out, front(&room, len))?,
+        Err(refusal) => refused(out, refusal)?,
     }
     text(out, b" /")
 }
@@ -97,8 +93,8 @@ fn ends(
     let answer = axes::axis(sig, contexts, axis, 0, position, &mut room);
     number(out, wide(axis))?;
     match answer {
-        Written::Length(len) => list_ends(out, &room, len)?,
-        Written::Refused(refusal) => refused(out, refusal)?,
+        Ok(len) => list_ends(out, &room, len)?,
+        Err(refusal) => refused(out, refusal)?,
     }
     text(out, b" /")
 }

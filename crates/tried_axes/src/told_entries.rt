@@ -1,24 +1,24 @@
 // The level, the place and the block of entries.
-use blocks::{LevelAnswer, PlaceAnswer};
+
 use std::io;
 use std::io::Write;
-use terms::PreRank;
+use terms::{PreRank, Refusal};
 use trial_lines::{number, refused, text, wide};
 
-fn level_told(out: &mut impl Write, level: LevelAnswer) -> io::Result<()> {
+fn level_told(out: &mut impl Write, level: Result<u16, Refusal>) -> io::Result<()> {
     match level {
-        LevelAnswer::Level(l) => number(out, wide(l)),
-        LevelAnswer::Refused(refusal) => refused(out, refusal),
+        Ok(l) => number(out, wide(l)),
+        Err(refusal) => refused(out, refusal),
     }
 }
 
-fn place_told(out: &mut impl Write, place: PlaceAnswer) -> io::Result<()> {
+fn place_told(out: &mut impl Write, place: Result<(usize, usize), Refusal>) -> io::Result<()> {
     match place {
-        PlaceAnswer::Numbers(first, count) => {
+        Ok((first, count)) => {
             number(out, first as u64)?;
             number(out, count as u64)
         }
-        PlaceAnswer::Refused(refusal) => refused(out, refusal),
+        Err(refusal) => refused(out, refusal),
     }
 }
 

@@ -4,14 +4,11 @@
 // whole check, `cut` a fresh turn and then the rest), the kind of tree, the budget, and next, top and closed of the state; and the signature.
 #![tactic(auto)]
 
-use checking::{CheckState, CheckTurn};
+use checking::CheckState;
 use std::io;
 use std::io::{BufWriter, Write};
-use terms::{PostRank, PreRank, Verdict};
-use trial_lines::{
-    field, front, kind_of, line_of, number, numbers_into, read_cases, refused, stopped, text,
-    tree_into, wide,
-};
+use terms::{PostRank, PreRank, Refusal, Turn};
+use trial_lines::{field, front, kind_of, line_of, number, numbers_into, read_cases, refused, stopped, text, tree_into, wide};
 
 // What is tried, as words of a line.
 const TURN: u16 = 116;
@@ -20,7 +17,7 @@ const WHOLE: u16 = 119;
 
 const CUT: u16 = 99;
 
-fn shown(out: &mut impl Write, label: &[u8], turn: CheckTurn) -> io::Result<()> {
+fn shown(out: &mut impl Write, label: &[u8], turn: Turn<CheckState>) -> io::Result<()> {
     text(out, label)?;
     stopped(out, turn.stop)?;
     number(out, turn.steps)?;
@@ -30,11 +27,11 @@ fn shown(out: &mut impl Write, label: &[u8], turn: CheckTurn) -> io::Result<()> 
     text(out, b"\n")
 }
 
-fn judged(out: &mut impl Write, label: &[u8], verdict: Verdict) -> io::Result<()> {
+fn judged(out: &mut impl Write, label: &[u8], verdict: Result<(), Refusal>) -> io::Result<()> {
     text(out, label)?;
     match verdict {
-        Verdict::Accepted => text(out, b" accepted")?,
-        Verdict::Refused(refusal) => refused(out, refusal)?,
+        Ok(()) => text(out, b" accepted")?,
+        Err(refusal) => refused(out, refusal)?,
     }
     text(out, b"\n")
 }

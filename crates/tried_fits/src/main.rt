@@ -18,9 +18,7 @@ use shown::shown;
 use std::io;
 use std::io::{BufWriter, Write};
 use terms::PreRank;
-use trial_lines::{
-    field, front, great, line_of, numbers_into, read_cases, room_left, size, text, tree_into,
-};
+use trial_lines::{field, front, great, line_of, numbers_into, read_cases, room_left, size, text, tree_into};
 use whole::{ask, cuts, lent};
 
 // What is tried, as words of a line.

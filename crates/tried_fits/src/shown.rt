@@ -1,9 +1,9 @@
 // Printing: what a turn handed back, in numbers.
-use fits::{Fit, FitTurn};
+use fits::Fit;
 use fits_rows::Stage;
 use std::io;
 use std::io::Write;
-use terms::Stop;
+use terms::{Stop, Turn};
 use trial_lines::{number, stopped, wide};
 
 fn stage_number(stage: Stage) -> u64 {
@@ -27,6 +27,6 @@ pub fn came_to(out: &mut impl Write, stop: Stop, steps: u64, state: Fit) -> io::
     shown_state(out, state)
 }
 
-pub fn shown(out: &mut impl Write, turn: FitTurn) -> io::Result<()> {
+pub fn shown(out: &mut impl Write, turn: Turn<Fit>) -> io::Result<()> {
     came_to(out, turn.stop, turn.steps, turn.state)
 }

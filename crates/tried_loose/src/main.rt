@@ -16,9 +16,7 @@ use shown::{shown_prep, shown_walk, started};
 use std::io;
 use std::io::{BufWriter, Write};
 use terms::PreRank;
-use trial_lines::{
-    field, front, great, line_of, numbers, numbers_into, read_cases, size, text, tree_into, wide,
-};
+use trial_lines::{field, front, great, line_of, numbers, numbers_into, read_cases, size, text, tree_into, wide};
 use walk_ranges::Phase;
 use walking::Walk;
 use whole::{prepare, walk};

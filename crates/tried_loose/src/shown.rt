@@ -1,12 +1,13 @@
 // Printing: what a turn handed back, in numbers.
-use preparing::{PrepTurn, Started};
+
+use terms::{Refusal, Turn};
 use std::io;
 use std::io::Write;
 use trial_lines::{number, numbers, refused, stopped, text, wide};
 use walk_ranges::Phase;
-use walking::{Walk, WalkTurn};
+use walking::Walk;
 
-pub fn shown_prep(out: &mut impl Write, turn: PrepTurn) -> io::Result<()> {
+pub fn shown_prep(out: &mut impl Write, turn: Turn<Prep>) -> io::Result<()> {
     stopped(out, turn.stop)?;
     number(out, turn.steps)?;
     number(out, wide(turn.state.next.0))?;
@@ -29,19 +30,19 @@ fn shown_state(out: &mut impl Write, walk: Walk) -> io::Result<()> {
     numbers(out, &images)
 }
 
-pub fn shown_walk(out: &mut impl Write, turn: WalkTurn) -> io::Result<()> {
+pub fn shown_walk(out: &mut impl Write, turn: Turn<Walk>) -> io::Result<()> {
     stopped(out, turn.stop)?;
     number(out, turn.steps)?;
     shown_state(out, turn.walk)?;
     text(out, b"\n")
 }
 
-pub fn started(out: &mut impl Write, start: Started) -> io::Result<()> {
+pub fn started(out: &mut impl Write, start: Result<Prep, Refusal>) -> io::Result<()> {
     match start {
-        Started::Fresh(state) => {
+        Ok(state) => {
             text(out, b" fresh")?;
             number(out, wide(state.next.0))
         }
-        Started::Refused(refusal) => refused(out, refusal),
+        Err(refusal) => refused(out, refusal),
     }
 }

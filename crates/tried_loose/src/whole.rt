@@ -1,11 +1,11 @@
 // Whole preparations and whole walks, in turns.
 use crate::shown::shown_walk;
-use preparing::{Prep, Started};
+use preparing::Prep;
 use std::io;
 use std::io::Write;
-use terms::{PreRank, Stop};
+use terms::{PreRank, Stop, Turn};
 use trial_lines::{number, stop_number, stopped, text, wide};
-use walking::{Walk, WalkTurn};
+use walking::Walk;
 
 // Prepares the whole table in turns of budget steps.
 pub fn prepare(
@@ -17,7 +17,7 @@ pub fn prepare(
     budget: u64,
 ) -> io::Result<()> {
     let start = starting::prepare_start(n, table);
-    let Started::Fresh(fresh) = start else {
+    let Ok(fresh) = start else {
         return text(out, b"not started\n");
     };
     prepare_from(out, sig, twig, table, fresh.next.0, budget)
@@ -114,7 +114,7 @@ fn goes_on(stop: u64, answers: u64, enough: u64) -> bool {
 }
 
 // Prints where a turn came to, if asked and unless its budget stopped it.
-fn reported(out: &mut impl Write, turn: WalkTurn, stop: u64, print: bool) -> io::Result<()> {
+fn reported(out: &mut impl Write, turn: Turn<Walk>, stop: u64, print: bool) -> io::Result<()> {
     if print & (stop != 2) {
         text(out, b"at")?;
         shown_walk(out, turn)?;

@@ -6,11 +6,7 @@
 
 use std::io;
 use std::io::{BufWriter, Write};
-use terms::Written;
-use trial_lines::{
-    field, front, line_of, number, numbers, numbers_into, read_cases, room_left, text, told,
-    tree_into, wide,
-};
+use trial_lines::{field, front, line_of, number, numbers, numbers_into, read_cases, room_left, text, told, tree_into, wide};
 
 // What is tried, as words of a line.
 const PAIRS: u16 = 112;
@@ -35,7 +31,7 @@ fn one_more(
     let m = twig.len() / 4;
     let answer = ordered::ordered_next(sig, twig, front(&tuple, m), &mut room);
     match answer {
-        Written::Length(len) => {
+        Ok(len) => {
             if len == 0 {
                 text(out, b"none\n")?;
                 return Ok(Given { tuple, more: false });
@@ -47,7 +43,7 @@ fn one_more(
                 more: true,
             })
         }
-        Written::Refused(_) => {
+        Err(_) => {
             text(out, b"refused\n")?;
             Ok(Given { tuple, more: false })
         }
@@ -75,8 +71,8 @@ fn after(out: &mut impl Write, sig: &[u16], twig: &[u16], a: u16, b: u16) -> io:
     text(out, b" :")?;
     let answer = ordered::ordered_next(sig, twig, &tuple, &mut room);
     match answer {
-        Written::Length(len) => numbers(out, front(&room, len))?,
-        Written::Refused(refusal) => {
+        Ok(len) => numbers(out, front(&room, len))?,
+        Err(refusal) => {
             number(out, wide(refusal.number))?;
             text(out, b" refused")?;
         }

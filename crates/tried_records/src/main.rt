@@ -11,12 +11,8 @@ mod lists;
 use lists::{bytes_into, front_bytes, octets};
 use std::io;
 use std::io::{BufWriter, Write};
-use tag_lists::TreeRead;
-use terms::{Kind, Written};
-use trial_lines::{
-    field, front, kind_of, line_of, number, numbers, numbers_into, read_cases, refused, room_left,
-    size, text, told, tree_into,
-};
+use terms::{Kind, Refusal};
+use trial_lines::{field, front, kind_of, line_of, number, numbers, numbers_into, read_cases, refused, room_left, size, text, told, tree_into};
 
 // What is tried, as words of a line.
 const READ: u16 = 114;
@@ -25,14 +21,14 @@ const RECORDS: u16 = 114;
 
 const ONE: u16 = 111;
 
-fn told_tree(out: &mut impl Write, answer: TreeRead) -> io::Result<()> {
+fn told_tree(out: &mut impl Write, answer: Result<(usize, usize), Refusal>) -> io::Result<()> {
     match answer {
-        TreeRead::Tree(len, end) => {
-            told(out, Written::Length(len))?;
+        Ok((len, end)) => {
+            told(out, Ok(len))?;
             text(out, b" end")?;
             number(out, end as u64)
         }
-        TreeRead::Refused(refusal) => refused(out, refusal),
+        Err(refusal) => refused(out, refusal),
     }
 }
 

@@ -5,9 +5,9 @@ ghost use Rattle.std.specs.Prelude.{◌≡◌};
 ghost use Rattle.walk_numbers.specs.Walk.{phase_of, phase_number, walk_of, walk_numbers, kept_of, WalkSaid};
 
 use telling::tell_stop;
-use terms::PreRank;
+use terms::{PreRank, Turn};
 use walk_ranges::Phase;
-use walking::{Walk, WalkTurn};
+use walking::Walk;
 
 // The phase that a number up to 2 names.
 fn phase_of(phase: u16) -> Phase
@@ -89,7 +89,7 @@ fn kept(given: [u16; 19], after: Walk) -> [u16; 19]
 // Puts the walk that a turn leaves back into the numbers given, and tells what stopped it.
 pub fn tell_walk(
     given: [u16; 19],
-    turned: WalkTurn,
+    turned: Turn<Walk>,
     state: &mut [u16; 19],
     out: &mut [u64; 3],
 ) -> u16

@@ -9,7 +9,7 @@
 --   shut_out_trusting    a call that answers on two roots
 --   shut_out_axis, shut_out_outside, shut_out_falling   a call that answers for an axis over 10, a context of 0 or over n, contexts that do not ascend
 --   ten_child            axis_is_xpath, used once on Ten
-use Rattle.std.specs.Prelude.{ℕ, ◌≤◌, ◌<◌, ◌≡◌, refl, List, [], ◌∷◌, ◌++◌, map, length, get_or, drop}
+use Rattle.std.specs.Prelude.{ℕ, ◌≤◌, ◌<◌, ◌≡◌, refl, List, [], ◌∷◌, ◌++◌, map, length, get_or, drop, Ok, Err}
 use Rattle.std.proofs.Common.{ap, ◌∙◌, sym, ⊎_elim, arith}
 use mathlib.Core.List.Memᴰ
 use Rattle.turns.specs.Turn.{run}
@@ -23,11 +23,10 @@ use Rattle.trees.specs.Order.{lt_or_ge}
 use Rattle.trees.specs.Names.{passes}
 use Rattle.terms.specs.declared.Kind.{Kind}
 use Rattle.terms.specs.declared.Refusal.{Refusal}
-use Rattle.terms.specs.declared.Written.{Written}
 use Rattle.checking.specs.Rule.{step_of, close_of, accepted, nameless, second_root, in_range}
 use Rattle.checking.specs.Turn.{turn_within}
 use Rattle.terms.specs.Length.{length_fault}
-use Rattle.terms.specs.Stops.{Answered, worked, refused_as, answered}
+use Rattle.terms.specs.Stops.{Answered, worked, refused_as, answered, Written}
 use Rattle.checked.specs.Yields.{Words, Yields}
 use Rattle.checked.specs.Accepted.{tree_of}
 use Rattle.checked.specs.Menus.{ten, two_roots}
@@ -68,14 +67,14 @@ pub record DemandAxis (call : Call) : Type 0 where
       → (l : List (Node (whole y.tree))) × Lists (InUnion axis name p xs) l
       × Answers s w y room (call s (map pre xs) axis name p room).answer (call s (map pre xs) axis name p room).room l
   pub other : (s : List ℕ) → Words s → (contexts : List ℕ) (axis name p : ℕ) (room : List ℕ) → (Asked s contexts axis → ⊥)
-      → (why : Refusal) × ((call s contexts axis name p room).answer ≡ Written.Refused why) × ((call s contexts axis name p room).room ≡ room)
+      → (why : Refusal) × ((call s contexts axis name p room).answer ≡ Err why) × ((call s contexts axis name p room).room ≡ room)
 
 -- what was not asked is refused by our promise
 module _ (s : List ℕ) (w : Words s) (contexts : List ℕ) (axis name p : ℕ) (room : List ℕ) (n : Asked s contexts axis → ⊥) where
-  promised_other : (r : Written) (after : List ℕ) → AxisPromise s contexts axis name p room r after → (why : Refusal) × (r ≡ Written.Refused why) × (after ≡ room)
-  promised_other (Written.Refused why) after h = (why, refl, refused_writes_nothing s contexts axis name p room why after h)
-  promised_other (Written.Length k) after h =
-      let x = (axis_works_exactly s w contexts axis name p room (Written.Length k) after h).sound k refl in
+  promised_other : (r : Written) (after : List ℕ) → AxisPromise s contexts axis name p room r after → (why : Refusal) × (r ≡ Err why) × (after ≡ room)
+  promised_other (Err why) after h = (why, refl, refused_writes_nothing s contexts axis name p room why after h)
+  promised_other (Ok k) after h =
+      let x = (axis_works_exactly s w contexts axis name p room (Ok k) after h).sound k refl in
       absurd (n (record { yields = x.yields; elements = x.elements; order = x.order; ranks = x.ranks; small = x.small }))
 
 pub ours_axis : (call : Call)
@@ -98,38 +97,38 @@ seven = under (beside here)
 one_order : (x : Node (whole ten_tree)) → InOrder (x ∷ [])
 one_order x = ((λ y m. absurd (Memᴰ.not-nil m)), tt)
 
-child_promise : AxisPromise ten (map pre (two ∷ [])) 1 0 0 (99 ∷ 99 ∷ []) (Written.Length 2) (3 ∷ 6 ∷ [])
+child_promise : AxisPromise ten (map pre (two ∷ [])) 1 0 0 (99 ∷ 99 ∷ []) (Ok 2) (3 ∷ 6 ∷ [])
 unfolding pre run turn_within length_fault in_range step_of close_of nameless second_root accepted cell
     up_to some rises within met parent_of ancestor_or_self whole_before sibling_before on_axis passes chosen pth kept after_check arguments_fine room_for axis_within
 child_promise = record { told = refl; left = refl }
 
-following_promise : AxisPromise ten (map pre (seven ∷ [])) 7 0 0 [] (Written.Length 0) []
+following_promise : AxisPromise ten (map pre (seven ∷ [])) 7 0 0 [] (Ok 0) []
 unfolding pre run turn_within length_fault in_range step_of close_of nameless second_root accepted cell
     up_to some rises within met parent_of ancestor_or_self whole_before sibling_before on_axis passes chosen pth kept after_check arguments_fine room_for axis_within
 following_promise = record { told = refl; left = refl }
 
 -- axis_is_xpath on Ten: the children of 2
-pub ten_child : (l : List (Node (whole ten_tree))) × Lists (InUnion 1 0 0 (two ∷ [])) l × Answers ten ten_words ten_yields (99 ∷ 99 ∷ []) (Written.Length 2) (3 ∷ 6 ∷ []) l
-ten_child = axis_is_xpath ten ten_words ten_yields (two ∷ []) (one_order two) 1 0 0 (omega arith) (99 ∷ 99 ∷ []) (Written.Length 2) (3 ∷ 6 ∷ []) child_promise
+pub ten_child : (l : List (Node (whole ten_tree))) × Lists (InUnion 1 0 0 (two ∷ [])) l × Answers ten ten_words ten_yields (99 ∷ 99 ∷ []) (Ok 2) (3 ∷ 6 ∷ []) l
+ten_child = axis_is_xpath ten ten_words ten_yields (two ∷ []) (one_order two) 1 0 0 (omega arith) (99 ∷ 99 ∷ []) (Ok 2) (3 ∷ 6 ∷ []) child_promise
 
 -- the length and the ranks of the node set that a kept promise tells
-told_length : (room after : List ℕ) (k : ℕ) (l : List (Node (whole ten_tree))) → Answers ten ten_words ten_yields room (Written.Length k) after l → length l ≡ k
+told_length : (room after : List ℕ) (k : ℕ) (l : List (Node (whole ten_tree))) → Answers ten ten_words ten_yields room (Ok k) after l → length l ≡ k
 told_length room after k l a =
     ⊎_elim (λ (s : length room < length l). absurd (never (a.short s).0)) (λ (g : length l ≤ length room). sym (ap (λ (t : Answered). t.length) (a.enough g).0))
     (lt_or_ge (length room) (length l))
   where
-    never : answered (Written.Length k) ≡ refused_as 10 0 → ⊥
+    never : answered (Ok k) ≡ refused_as 10 0 → ⊥
     never q = let z : ◌≡◌ {A = ℕ} 0 1 = ap (λ (t : Answered). t.refused) q in omega arith
 
 -- what a call that meets the demand says where our promise tells k elements that fit
 module _ (call : Call) (d : DemandAxis call) (x : Node (whole ten_tree)) (axis : ℕ) (small : axis ≤ 10) (room after : List ℕ) (k : ℕ)
-    (p : AxisPromise ten (map pre (x ∷ [])) axis 0 0 room (Written.Length k) after) (fits : k ≤ length room) where
+    (p : AxisPromise ten (map pre (x ∷ [])) axis 0 0 room (Ok k) after) (fits : k ≤ length room) where
   abbrev got : Outcome
   got = call ten (map pre (x ∷ [])) axis 0 0 room
 
   forced : (answered got.answer ≡ worked k) × (got.room ≡ after)
   forced =
-      let u = axis_is_xpath ten ten_words ten_yields (x ∷ []) (one_order x) axis 0 0 small room (Written.Length k) after p in
+      let u = axis_is_xpath ten ten_words ten_yields (x ∷ []) (one_order x) axis 0 0 small room (Ok k) after p in
       let v = d.answers ten ten_words ten_yields (x ∷ []) (one_order x) axis 0 0 small room in
       let n = told_length room after k u.0 u.2 in
       let e = lists_unique _ v.0 u.0 v.1 u.1 in
@@ -142,7 +141,7 @@ module _ (call : Call) (d : DemandAxis call) (x : Node (whole ten_tree)) (axis :
 
 -- refusing everything, each time as it likes, whatever it leaves
 abbrev pub refusing : (List ℕ → List ℕ → ℕ → ℕ → ℕ → List ℕ → Refusal) → (List ℕ → List ℕ → ℕ → ℕ → ℕ → List ℕ → List ℕ) → Call
-refusing why after s contexts axis name p room = record { answer = Written.Refused (why s contexts axis name p room); room = after s contexts axis name p room }
+refusing why after s contexts axis name p room = record { answer = Err (why s contexts axis name p room); room = after s contexts axis name p room }
 
 -- one fixed answer
 abbrev pub fixed : Outcome → Call
@@ -171,12 +170,12 @@ shut_out_idle say d =
 
 -- ---- answering what was not asked
 
-not_refused : {r : Written} {k : ℕ} → r ≡ Written.Length k → (why : Refusal) × (r ≡ Written.Refused why) → ⊥
+not_refused : {r : Written} {k : ℕ} → r ≡ Ok k → (why : Refusal) × (r ≡ Err why) → ⊥
 not_refused e q = let z : ◌≡◌ {A = ℕ} 0 1 = ap (λ (x : Written). (answered x).refused) (sym e ∙ q.1) in omega arith
 
 -- any call that answers on the entries of two roots, which no tree yields, whatever else it is given: one that trusts every fa
 pub shut_out_trusting : (call : Call) (contexts : List ℕ) (axis name p : ℕ) (room : List ℕ) (k : ℕ)
-    → (call two_roots contexts axis name p room).answer ≡ Written.Length k → DemandAxis call → ⊥
+    → (call two_roots contexts axis name p room).answer ≡ Ok k → DemandAxis call → ⊥
 unfolding small
 shut_out_trusting call contexts axis name p room k e d =
     let q = d.other two_roots (small_words two_roots refl) contexts axis name p room (λ a. two_none a.yields) in
@@ -184,13 +183,13 @@ shut_out_trusting call contexts axis name p room k e d =
 
 -- any call that answers for an axis over 10, on Ten
 pub shut_out_axis : (call : Call) (contexts : List ℕ) (axis name p : ℕ) (room : List ℕ) (k : ℕ) → 10 < axis
-    → (call ten contexts axis name p room).answer ≡ Written.Length k → DemandAxis call → ⊥
+    → (call ten contexts axis name p room).answer ≡ Ok k → DemandAxis call → ⊥
 shut_out_axis call contexts axis name p room k h e d =
     let q = d.other ten ten_words contexts axis name p room (λ a. omega (arith, a.small, h)) in not_refused e (q.0, q.1)
 
 -- any call that answers for a context of 0 or over n, on Ten
 pub shut_out_outside : (call : Call) (c axis name p : ℕ) (room : List ℕ) (k : ℕ) → (1 ≤ c → c ≤ 10 → ⊥)
-    → (call ten (c ∷ []) axis name p room).answer ≡ Written.Length k → DemandAxis call → ⊥
+    → (call ten (c ∷ []) axis name p room).answer ≡ Ok k → DemandAxis call → ⊥
 shut_out_outside call c axis name p room k h e d =
     let q = d.other ten ten_words (c ∷ []) axis name p room (λ a. go a.yields a.elements a.ranks) in not_refused e (q.0, q.1)
   where
@@ -203,7 +202,7 @@ shut_out_outside call c axis name p room k h e d =
 
 -- any call that answers for contexts that do not ascend strictly, on Ten
 pub shut_out_falling : (call : Call) (b c axis name p : ℕ) (room : List ℕ) (k : ℕ) → c ≤ b
-    → (call ten (b ∷ c ∷ []) axis name p room).answer ≡ Written.Length k → DemandAxis call → ⊥
+    → (call ten (b ∷ c ∷ []) axis name p room).answer ≡ Ok k → DemandAxis call → ⊥
 shut_out_falling call b c axis name p room k h e d =
     let q = d.other ten ten_words (b ∷ c ∷ []) axis name p room (λ a. go a.elements a.order a.ranks) in not_refused e (q.0, q.1)
   where

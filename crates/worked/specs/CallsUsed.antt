@@ -11,7 +11,7 @@
 --   tuple_last                     fault_tuple: a number over 10 on Ten, though the room is of one number
 --   ordered_unwritten              writes_nothing: no answer comes after 8 9 10
 --   ten_end                        calls_end: the calls with the twig 8(9,10) on Ten give 8 9 10 and end
-use Rattle.std.specs.Prelude.{ℕ, ◌≡◌, refl, true, false, take, drop}
+use Rattle.std.specs.Prelude.{ℕ, ◌≡◌, refl, true, false, take, drop, Ok, Err}
 use Rattle.std.proofs.Common.{subst}
 use mathlib.Core.List.{List, [], ◌∷◌, map, flat_map}
 use Rattle.turns.specs.Turn.{run}
@@ -22,11 +22,9 @@ use Rattle.trees.specs.Names.{passes}
 use Rattle.trees.specs.Signature.{cell, entries_of, width, entries}
 use Rattle.terms.specs.declared.Kind.{Kind}
 use Rattle.terms.specs.declared.Refusal.{Refusal}
-use Rattle.terms.specs.declared.Verdict.{Verdict}
-use Rattle.terms.specs.declared.Written.{Written}
 use Rattle.terms.specs.Length.{length_fault}
 use Rattle.terms.specs.Room.{room_for}
-use Rattle.terms.specs.Stops.{refused_as, answered}
+use Rattle.terms.specs.Stops.{refused_as, answered, Written}
 use Rattle.checking.specs.Rule.{step_of, close_of, accepted, nameless, second_root, in_range}
 use Rattle.checking.specs.Turn.{turn_within}
 use Rattle.checking.specs.Whole.{WholePromise}
@@ -36,7 +34,6 @@ use Rattle.checked.specs.ShutOut.{small, small_words}
 use Rattle.xpath.specs.Select.{up_to, some, rises, within}
 use Rattle.xpath.specs.Axes.{met, parent_of, ancestor_or_self, whole_before, sibling_before, on_axis, chosen, pth, kept}
 use Rattle.xpath.specs.OnNodes.{InOrder}
-use Rattle.blocks.specs.declared.PlaceAnswer.{PlaceAnswer}
 use Rattle.blocks.specs.Checked.{after_check, is_rank}
 use Rattle.blocks.specs.Block.{place_within, PlacePromise, BlockPromise}
 use Rattle.marks.specs.Axis.{arguments_fine, axis_within, axis_answer, AxisPromise}
@@ -59,17 +56,17 @@ because number entry = record { number = number; entry = record { 0 = entry } }
 -- ---- the axis call works
 
 -- the children of 2 in Ten are 3 and 6
-child_promise : AxisPromise ten (2 ∷ []) 1 0 0 (99 ∷ 99 ∷ []) (Written.Length 2) (3 ∷ 6 ∷ [])
+child_promise : AxisPromise ten (2 ∷ []) 1 0 0 (99 ∷ 99 ∷ []) (Ok 2) (3 ∷ 6 ∷ [])
 unfolding run turn_within length_fault in_range step_of close_of nameless second_root accepted cell
     up_to some rises within met parent_of ancestor_or_self whole_before sibling_before on_axis passes chosen pth kept after_check arguments_fine room_for axis_within
 child_promise = record { told = refl; left = refl }
 
 -- the call answered, so the list, the contexts, the axis and the room are as asked
 pub ten_works : Works ten (2 ∷ []) 1 0 0 (99 ∷ 99 ∷ [])
-ten_works = (axis_works_exactly ten ten_words (2 ∷ []) 1 0 0 (99 ∷ 99 ∷ []) (Written.Length 2) (3 ∷ 6 ∷ []) child_promise).sound 2 refl
+ten_works = (axis_works_exactly ten ten_words (2 ∷ []) 1 0 0 (99 ∷ 99 ∷ []) (Ok 2) (3 ∷ 6 ∷ []) child_promise).sound 2 refl
 
 -- they are as asked, so whatever keeps the promise answers
-pub ten_answers : (r : Written) (after : List ℕ) → AxisPromise ten (2 ∷ []) 1 0 0 (99 ∷ 99 ∷ []) r after → (k : ℕ) × (r ≡ Written.Length k)
+pub ten_answers : (r : Written) (after : List ℕ) → AxisPromise ten (2 ∷ []) 1 0 0 (99 ∷ 99 ∷ []) r after → (k : ℕ) × (r ≡ Ok k)
 ten_answers r after h = (axis_works_exactly ten ten_words (2 ∷ []) 1 0 0 (99 ∷ 99 ∷ []) r after h).complete ten_works
 
 -- ---- the axis call refuses
@@ -80,35 +77,35 @@ unfolding small
 two_words = small_words two_roots refl
 
 -- the entries of two roots
-pub faulty_promise : AxisPromise two_roots (1 ∷ []) 0 0 0 [] (Written.Refused (because 4 2)) []
+pub faulty_promise : AxisPromise two_roots (1 ∷ []) 0 0 0 [] (Err (because 4 2)) []
 unfolding run turn_within length_fault in_range step_of close_of nameless second_root accepted cell after_check
 faulty_promise = record { told = refl; left = refl }
 
 -- an axis of 11
-pub axis_promise : AxisPromise ten (2 ∷ []) 11 0 0 (99 ∷ []) (Written.Refused (because 8 0)) (axis_answer ten (2 ∷ []) 11 0 0 (99 ∷ [])).room
+pub axis_promise : AxisPromise ten (2 ∷ []) 11 0 0 (99 ∷ []) (Err (because 8 0)) (axis_answer ten (2 ∷ []) 11 0 0 (99 ∷ [])).room
 unfolding run turn_within length_fault in_range step_of close_of nameless second_root accepted cell after_check arguments_fine axis_within
 axis_promise = record { told = refl; left = refl }
 
 -- the two children of 2, and a room of nothing
-pub room_promise : AxisPromise ten (2 ∷ []) 1 0 0 [] (Written.Refused (because 10 0)) []
+pub room_promise : AxisPromise ten (2 ∷ []) 1 0 0 [] (Err (because 10 0)) []
 unfolding run turn_within length_fault in_range step_of close_of nameless second_root accepted cell
     up_to some rises within met parent_of ancestor_or_self whole_before sibling_before on_axis passes chosen pth kept after_check arguments_fine room_for axis_within
 room_promise = record { told = refl; left = refl }
 
 -- the check's number and entry
-pub faulty_number : Refusing two_roots two_words (1 ∷ []) 0 0 0 [] (Written.Refused (because 4 2)) [] faulty_promise (because 4 2)
-faulty_number = refused_number two_roots two_words (1 ∷ []) 0 0 0 [] (Written.Refused (because 4 2)) [] faulty_promise (because 4 2) refl
+pub faulty_number : Refusing two_roots two_words (1 ∷ []) 0 0 0 [] (Err (because 4 2)) [] faulty_promise (because 4 2)
+faulty_number = refused_number two_roots two_words (1 ∷ []) 0 0 0 [] (Err (because 4 2)) [] faulty_promise (because 4 2) refl
 
 -- 8 and no entry
 pub axis_number :
-    Refusing ten ten_words (2 ∷ []) 11 0 0 (99 ∷ []) (Written.Refused (because 8 0)) (axis_answer ten (2 ∷ []) 11 0 0 (99 ∷ [])).room axis_promise (because 8 0)
+    Refusing ten ten_words (2 ∷ []) 11 0 0 (99 ∷ []) (Err (because 8 0)) (axis_answer ten (2 ∷ []) 11 0 0 (99 ∷ [])).room axis_promise (because 8 0)
 axis_number =
-    refused_number ten ten_words (2 ∷ []) 11 0 0 (99 ∷ []) (Written.Refused (because 8 0)) (axis_answer ten (2 ∷ []) 11 0 0 (99 ∷ [])).room axis_promise
+    refused_number ten ten_words (2 ∷ []) 11 0 0 (99 ∷ []) (Err (because 8 0)) (axis_answer ten (2 ∷ []) 11 0 0 (99 ∷ [])).room axis_promise
     (because 8 0) refl
 
 -- 10 and no entry
-pub room_number : Refusing ten ten_words (2 ∷ []) 1 0 0 [] (Written.Refused (because 10 0)) [] room_promise (because 10 0)
-room_number = refused_number ten ten_words (2 ∷ []) 1 0 0 [] (Written.Refused (because 10 0)) [] room_promise (because 10 0) refl
+pub room_number : Refusing ten ten_words (2 ∷ []) 1 0 0 [] (Err (because 10 0)) [] room_promise (because 10 0)
+room_number = refused_number ten ten_words (2 ∷ []) 1 0 0 [] (Err (because 10 0)) [] room_promise (because 10 0) refl
 
 -- the refused call leaves the room as it was
 pub axis_unwritten : (axis_answer ten (2 ∷ []) 11 0 0 (99 ∷ [])).room ≡ 99 ∷ []
@@ -134,7 +131,7 @@ ten_contexts = contexts_are_elements (whole ten_tree) (2 ∷ 7 ∷ []) contexts_
 -- ---- block and block_place
 
 -- 2 and the four elements below it are 20 numbers, after the first 4
-place_promise : PlacePromise ten 2 (PlaceAnswer.Numbers 4 20)
+place_promise : PlacePromise ten 2 (Ok (4, 20))
 unfolding run turn_within length_fault in_range step_of close_of nameless second_root accepted cell after_check is_rank place_within
 place_promise = refl
 
@@ -144,11 +141,11 @@ unfolding run turn_within length_fault in_range step_of close_of nameless second
 block_promise = refl
 
 -- so block is not empty, and is the part at the place that block_place tells
-pub ten_block_placed : BlockAndPlace ten (PlaceAnswer.Numbers 4 20) (take 20 (drop 4 ten))
-ten_block_placed = block_and_place ten 2 (PlaceAnswer.Numbers 4 20) (take 20 (drop 4 ten)) place_promise block_promise
+pub ten_block_placed : BlockAndPlace ten (Ok (4, 20)) (take 20 (drop 4 ten))
+ten_block_placed = block_and_place ten 2 (Ok (4, 20)) (take 20 (drop 4 ten)) place_promise block_promise
 
 -- the rank 0 is of no element
-nowhere_promise : PlacePromise ten 0 (PlaceAnswer.Refused (because 8 0))
+nowhere_promise : PlacePromise ten 0 (Err (because 8 0))
 unfolding run turn_within length_fault in_range step_of close_of nameless second_root accepted cell after_check is_rank place_within
 nowhere_promise = refl
 
@@ -158,18 +155,18 @@ unfolding run turn_within length_fault in_range step_of close_of nameless second
 nothing_promise = refl
 
 -- so block is empty, and block_place refuses
-pub ten_block_refused : BlockAndPlace ten (PlaceAnswer.Refused (because 8 0)) []
-ten_block_refused = block_and_place ten 0 (PlaceAnswer.Refused (because 8 0)) [] nowhere_promise nothing_promise
+pub ten_block_refused : BlockAndPlace ten (Err (because 8 0)) []
+ten_block_refused = block_and_place ten 0 (Err (because 8 0)) [] nowhere_promise nothing_promise
 
 -- ---- the ordered call, its refusals in their order
 
 -- a twig with a wrong post
-twig_refused : WholePromise Kind.Twig wrong_post (Verdict.Refused (because 5 2))
+twig_refused : WholePromise Kind.Twig wrong_post (Err (because 5 2))
 unfolding run turn_within length_fault in_range step_of close_of nameless second_root accepted cell
 twig_refused = refl
 
 -- a signature of two roots
-data_refused : WholePromise Kind.Data two_roots (Verdict.Refused (because 4 2))
+data_refused : WholePromise Kind.Data two_roots (Err (because 4 2))
 unfolding run turn_within length_fault in_range step_of close_of nameless second_root accepted cell
 data_refused = refl
 
@@ -184,48 +181,48 @@ unfolding tuple_fits all_up_to
 over_unfit = refl
 
 -- what the call says of the faulty twig
-twig_promise : OrderedPromise two_roots wrong_post [] three (Written.Refused (because 5 2)) (ordered_of two_roots wrong_post [] three).room
+twig_promise : OrderedPromise two_roots wrong_post [] three (Err (because 5 2)) (ordered_of two_roots wrong_post [] three).room
 unfolding run turn_within length_fault in_range step_of close_of nameless second_root accepted cell judged_of ordered_of
 twig_promise = record { told = refl; left = refl }
 
 -- what it says of the faulty signature
-data_promise : OrderedPromise two_roots single [] three (Written.Refused (because 4 2)) (ordered_of two_roots single [] three).room
+data_promise : OrderedPromise two_roots single [] three (Err (because 4 2)) (ordered_of two_roots single [] three).room
 unfolding run turn_within length_fault in_range step_of close_of nameless second_root accepted cell judged_of ordered_of
 data_promise = record { told = refl; left = refl }
 
 -- what it says of a number over 10
-tuple_promise : OrderedPromise ten (fork 8 9 10) (0 ∷ 0 ∷ 11 ∷ []) (7 ∷ []) (Written.Refused (because 8 0)) (ordered_of ten (fork 8 9 10) (0 ∷ 0 ∷ 11 ∷ []) (7 ∷ [])).room
+tuple_promise : OrderedPromise ten (fork 8 9 10) (0 ∷ 0 ∷ 11 ∷ []) (7 ∷ []) (Err (because 8 0)) (ordered_of ten (fork 8 9 10) (0 ∷ 0 ∷ 11 ∷ []) (7 ∷ [])).room
 unfolding run turn_within length_fault in_range step_of close_of nameless second_root accepted cell all_up_to tuple_fits judged_of ordered_of
 tuple_promise = record { told = refl; left = refl }
 
 -- the twig's fault comes before the signature's and the tuple's
-pub twig_first : (answered (Written.Refused (because 5 2)) ≡ refused_as 5 2) × ((ordered_of two_roots wrong_post [] three).room ≡ three)
+pub twig_first : (answered (Err (because 5 2)) ≡ refused_as 5 2) × ((ordered_of two_roots wrong_post [] three).room ≡ three)
 twig_first =
-    fault_twig two_roots wrong_post [] three (Written.Refused (because 5 2)) (ordered_of two_roots wrong_post [] three).room twig_promise (because 5 2) twig_refused
+    fault_twig two_roots wrong_post [] three (Err (because 5 2)) (ordered_of two_roots wrong_post [] three).room twig_promise (because 5 2) twig_refused
 
 -- the signature's fault comes before the tuple's
-pub data_next : (answered (Written.Refused (because 4 2)) ≡ refused_as 4 2) × ((ordered_of two_roots single [] three).room ≡ three)
+pub data_next : (answered (Err (because 4 2)) ≡ refused_as 4 2) × ((ordered_of two_roots single [] three).room ≡ three)
 data_next =
-    fault_data two_roots single [] three (Written.Refused (because 4 2)) (ordered_of two_roots single [] three).room data_promise (because 4 2) single_accepted
+    fault_data two_roots single [] three (Err (because 4 2)) (ordered_of two_roots single [] three).room data_promise (because 4 2) single_accepted
     data_refused
 
 -- the tuple's fault comes before the room's
-pub tuple_last : (answered (Written.Refused (because 8 0)) ≡ refused_as 8 0) × ((ordered_of ten (fork 8 9 10) (0 ∷ 0 ∷ 11 ∷ []) (7 ∷ [])).room ≡ 7 ∷ [])
+pub tuple_last : (answered (Err (because 8 0)) ≡ refused_as 8 0) × ((ordered_of ten (fork 8 9 10) (0 ∷ 0 ∷ 11 ∷ []) (7 ∷ [])).room ≡ 7 ∷ [])
 tuple_last =
-    fault_tuple ten (fork 8 9 10) (0 ∷ 0 ∷ 11 ∷ []) (7 ∷ []) (Written.Refused (because 8 0)) (ordered_of ten (fork 8 9 10) (0 ∷ 0 ∷ 11 ∷ []) (7 ∷ [])).room
+    fault_tuple ten (fork 8 9 10) (0 ∷ 0 ∷ 11 ∷ []) (7 ∷ []) (Err (because 8 0)) (ordered_of ten (fork 8 9 10) (0 ∷ 0 ∷ 11 ∷ []) (7 ∷ [])).room
     tuple_promise fork_accepted ten_accepted over_unfit
 
 -- ---- the ordered call, where it writes nothing, and where the calls end
 
 -- no answer comes after 8 9 10
-none_promise : OrderedPromise ten (fork 8 9 10) found three (Written.Length 0) (ordered_of ten (fork 8 9 10) found three).room
+none_promise : OrderedPromise ten (fork 8 9 10) found three (Ok 0) (ordered_of ten (fork 8 9 10) found three).room
 unfolding run turn_within length_fault in_range step_of close_of nameless second_root accepted cell passes room_for
     ranks tuples placed_test later_test answer_test smaller_test first_of next_answer flat_map all_up_to tuple_fits judged_of ordered_of
 none_promise = record { told = refl; left = refl }
 
 -- so the room stays as it was
 pub ordered_unwritten : (ordered_of ten (fork 8 9 10) found three).room ≡ three
-ordered_unwritten = writes_nothing ten (fork 8 9 10) found three (Written.Length 0) (ordered_of ten (fork 8 9 10) found three).room none_promise refl
+ordered_unwritten = writes_nothing ten (fork 8 9 10) found three (Ok 0) (ordered_of ten (fork 8 9 10) found three).room none_promise refl
 
 -- 8 9 10 is the one ordered answer
 ten_all : Listing.answers_of (entries ten) (entries_of width ten) (entries (fork 8 9 10)) (entries_of width (fork 8 9 10)) ≡ found ∷ []

@@ -1,5 +1,5 @@
 -- Each theorem of the check that has a premise, used once on a starred case: so no premise is empty.
-use Rattle.std.specs.Prelude.{ℕ, suc, ◌+◌, ◌<◌, ◌≡◌, refl, List, [], ◌∷◌, false}
+use Rattle.std.specs.Prelude.{ℕ, suc, ◌+◌, ◌<◌, ◌≡◌, refl, List, [], ◌∷◌, false, Ok, Err}
 use Rattle.std.proofs.Common.{arith}
 use Rattle.turns.specs.Turn.{run, Steps}
 use Rattle.turns.specs.Chains.{one, more}
@@ -7,9 +7,7 @@ use Rattle.trees.specs.Tree.{none, elem, Tree, Allowed}
 use Rattle.trees.specs.Signature.{cell, entries_of, width}
 use Rattle.terms.specs.declared.Kind.{Kind}
 use Rattle.checking.specs.declared.CheckState.{CheckState}
-use Rattle.checking.specs.declared.CheckTurn.{CheckTurn}
 use Rattle.terms.specs.declared.Stop.{Stop}
-use Rattle.terms.specs.declared.Verdict.{Verdict}
 use Rattle.checking.specs.Rule.{fresh, Ranges, step_of, close_of, accepted, nameless, second_root, in_range}
 use Rattle.checking.specs.Turn.{TurnPromise, turn_of, turn_within}
 use Rattle.terms.specs.Length.{length_fault}
@@ -21,6 +19,8 @@ use Rattle.checked.specs.Wholly.{handed, handed_is, accepted_exactly, check_two_
 use Rattle.checked.specs.Public.{one_result, one_verdict, cut_anywhere, cut_kept, count_unique, stops_before_the_fault, BeforeFault, refused_early, chain_verdict, handed_back_in_range, step_as_written}
 use Rattle.checked.specs.ShutOut.{small, small_words}
 use Rattle.checked.specs.Menus.{ten, wrong_post}
+use Rattle.terms.specs.declared.Turn.{Turn}
+use Rattle.terms.specs.Stops.{Verdict}
 
 -- ---- a tree yields Ten
 
@@ -61,11 +61,11 @@ ten_words = small_words ten refl
 -- ---- a chain of two public turns on Ten
 
 -- the first turn: 3 steps from the fresh state
-abbrev pub first : CheckTurn
+abbrev pub first : Turn CheckState
 first = handed (turn_of Kind.Data ten 3 fresh)
 
 -- the second turn: from the state that the first handed back, with more than enough to spend
-abbrev pub last : CheckTurn
+abbrev pub last : Turn CheckState
 last = handed (turn_of Kind.Data ten 8190 (turn_of Kind.Data ten 3 fresh).state)
 
 chain : Turns Kind.Data ten fresh (3 + 8190) (first.steps + last.steps) last
@@ -111,13 +111,13 @@ pub ten_count : {k : ℕ} → Steps CheckState (accepted 10) (step_of false 10 (
 ten_count m = count_unique Kind.Data ten m ten_steps
 
 -- whatever keeps the promise of this turn is what ours hands back
-pub ten_one : (r : CheckTurn) → TurnPromise Kind.Data ten 3 fresh r → r ≡ first
+pub ten_one : (r : Turn CheckState) → TurnPromise Kind.Data ten 3 fresh r → r ≡ first
 ten_one r p = one_result Kind.Data ten 3 fresh r first p (handed_is (turn_of Kind.Data ten 3 fresh))
 
 -- ---- a fault, on 5,1,3,0; 5,2,3,1
 
 -- "Entries 5,1,3,0; 5,2,3,1", checked in one turn
-abbrev pub faulty : CheckTurn
+abbrev pub faulty : Turn CheckState
 faulty = handed (turn_of Kind.Data wrong_post 9 fresh)
 
 post_refused : faulty.stop ≡ Stop.Refused (record { number = 5; entry = record { 0 = 2 } })
@@ -133,7 +133,7 @@ wrong_early =
     refused_early Kind.Data wrong_post wrong_fits (one (handed_is (turn_of Kind.Data wrong_post 9 fresh))) (record { number = 5; entry = record { 0 = 2 } })
     post_refused
 
-pub wrong_verdict : WholePromise Kind.Data wrong_post (Verdict.Refused (record { number = 5; entry = record { 0 = 2 } }))
+pub wrong_verdict : WholePromise Kind.Data wrong_post (Err (record { number = 5; entry = record { 0 = 2 } }))
 wrong_verdict =
     chain_verdict Kind.Data wrong_post wrong_fits (one (handed_is (turn_of Kind.Data wrong_post 9 fresh))) (record { number = 5; entry = record { 0 = 2 } })
     post_refused
@@ -146,7 +146,7 @@ wrong_before =
 
 -- ---- the whole check, on Ten
 
-ten_whole : WholePromise Kind.Data ten Verdict.Accepted
+ten_whole : WholePromise Kind.Data ten (Ok tt)
 unfolding turn_within length_fault in_range run step_of close_of nameless second_root accepted cell
 ten_whole = refl
 
@@ -154,14 +154,14 @@ pub ten_tree_law : AcceptedTree Kind.Data ten
 ten_tree_law = accepted_tree Kind.Data ten ten_whole
 
 pub ten_exactly : Yields Kind.Data ten
-ten_exactly = (whole_exactly Kind.Data ten ten_words Verdict.Accepted ten_whole).sound refl
+ten_exactly = (whole_exactly Kind.Data ten ten_words (Ok tt) ten_whole).sound refl
 
 pub ten_unique : ten_exactly.tree ≡ ten_yields.tree
 ten_unique = tree_unique Kind.Data ten ten_exactly ten_yields
 
 -- whatever keeps the whole check's promise accepts Ten
-pub ten_verdict : (v : Verdict) → WholePromise Kind.Data ten v → v ≡ Verdict.Accepted
-ten_verdict v p = one_verdict Kind.Data ten v Verdict.Accepted p ten_whole
+pub ten_verdict : (v : Verdict) → WholePromise Kind.Data ten v → v ≡ Ok tt
+ten_verdict v p = one_verdict Kind.Data ten v (Ok tt) p ten_whole
 
 -- ---- a twig of one node with name 0, which no data tree may have
 

@@ -27,7 +27,6 @@ use Rattle.preparing.specs.Preparing.{Preparing, prepared, children_in, stands, 
 use Rattle.preparing.specs.PrepTurn.{cleared, prep_at, underway, prep_turn_of}
 use Rattle.walk_ranges.specs.Ranges.{image, place, image_fits, phase_fits}
 use Rattle.walking.specs.declared.Walk.{Walk}
-use Rattle.walking.specs.declared.WalkTurn.{WalkTurn}
 use Rattle.walking.specs.Walking.{fresh, ended, in_range, end_of, bad_end, back as go_back, found, walk_on, step_of}
 use Rattle.walking.specs.WalkTurn.{walk_fits, walk_turn_of}
 use Rattle.walking.proofs.WalkRanges.{range_facts}
@@ -39,6 +38,7 @@ use Rattle.listed.specs.Exactly.{end_steps_once}
 use Rattle.listed.specs.Cases.{prep_back, prep_handed, walk_back, walk_handed, back, five_accepted, four_accepted, five_table, four_table}
 use Rattle.listed.specs.Cases.{lent_for, cleared_for, five_start, five_turns, four_prepared}
 use Rattle.listed.specs.Worked.{four_chain}
+use Rattle.terms.specs.declared.Turn.{Turn}
 
 -- ---- what preparing leaves, and when it ends
 
@@ -76,7 +76,7 @@ five_short =
 -- ---- one number of steps to the end
 
 -- any chain of turns to the end has taken the 5 steps of the single turn
-pub four_steps : {C L : ℕ} {u : WalkTurn} → WalkTurns tarts (fork 2 3 4) four_table fresh C L u → u.stop ≡ Stop.End → 5 ≡ L
+pub four_steps : {C L : ℕ} {u : Turn Walk} → WalkTurns tarts (fork 2 3 4) four_table fresh C L u → u.stop ≡ Stop.End → 5 ≡ L
 four_steps c e = end_steps_once tarts (fork 2 3 4) four_accepted four_table four_prepared four_chain c refl e
 
 -- a turn of the walk of 2(3,4) on the four entries

@@ -15,7 +15,7 @@
 --   tree_short               exactly because nothing before room is refused and the entry is longer
 --   tags_again, single_again     the tag list read and written back; the signature written as a tag list and read back
 --   record_again, entry_again    the signature record read and written back; the signature written as a record and read back
-use Rattle.std.specs.Prelude.{ℕ, zero, suc, ◌+◌, ◌*◌, ◌≡◌, refl, Bool, true, false, ◌&&◌, List, [], ◌∷◌, ◌++◌, drop, ltb}
+use Rattle.std.specs.Prelude.{ℕ, zero, suc, ◌+◌, ◌*◌, ◌≡◌, refl, Bool, true, false, ◌&&◌, List, [], ◌∷◌, ◌++◌, drop, ltb, Ok, Err}
 use Rattle.std.proofs.Common.{inl, arith, ltb-true}
 use Rattle.std.proofs.lemmas.Bool.{false≢true}
 use Rattle.turns.specs.Turn.{run}
@@ -23,7 +23,6 @@ use Rattle.trees.specs.Tree.{none}
 use Rattle.trees.specs.Signature.{cell}
 use Rattle.trees.specs.Tags.{tags_of, opened, closed, rows_of, one_tree, tree_of}
 use Rattle.terms.specs.declared.Kind.{Kind}
-use Rattle.terms.specs.declared.Written.{Written}
 use Rattle.terms.specs.Length.{length_fault}
 use Rattle.terms.specs.Room.{left_by, room_for, front_with}
 use Rattle.checking.specs.Rule.{step_of, close_of, accepted, nameless, second_root, in_range}
@@ -35,7 +34,6 @@ use Rattle.bytes_read.specs.Bytes.{marked}
 use Rattle.bytes_read.specs.Scans.{step_by}
 use Rattle.records.specs.Records.{record_fault, records_end, numbers_from, bytes_from, nameless_from, write_fault, ReadPromise, WritePromise}
 use Rattle.tag_scan.specs.TagLists.{tag_bytes, closed_with, nameless_at, misnested, tag_fault, tag_next, tree_end, tags_from}
-use Rattle.tag_lists.specs.declared.TreeRead.{TreeRead}
 use Rattle.tag_lists.specs.Readers.{tags_left, TagsPromise, TreePromise}
 use Rattle.tag_writing.specs.TagsBack.{row_from, back_left, BackPromise}
 use Rattle.retold.specs.Taken.{Bytes, Taken}
@@ -100,17 +98,17 @@ record_room = 9 ∷ 9 ∷ 9 ∷ 9 ∷ 9 ∷ 9 ∷ 9 ∷ 9 ∷ 9 ∷ 9 ∷ 9 ∷ 
 -- ---- a whole tag list, read
 
 -- the entry stands at the front of the room, and one nine beyond it
-tags_read : TagsPromise Kind.Data single_tags long (Written.Length 4) (single ++ (9 ∷ []))
+tags_read : TagsPromise Kind.Data single_tags long (Ok 4) (single ++ (9 ∷ []))
 unfolding run step_by marked closed_with nameless_at misnested tag_fault tag_next tree_end tags_from opened closed rows_of one_tree tree_of left_by room_for
 tags_read = record { told = refl; left = refl }
 
 -- what the reader took is the tag list of a tree
 pub tags_taken : Taken Kind.Data single_tags
-tags_taken = (tags_accepted_exactly Kind.Data single_tags long (Written.Length 4) (single ++ (9 ∷ [])) tags_read tags_bytes).sound (inl (4, refl))
+tags_taken = (tags_accepted_exactly Kind.Data single_tags long (Ok 4) (single ++ (9 ∷ [])) tags_read tags_bytes).sound (inl (4, refl))
 
 -- and the tag list of the tree of one element is taken
-pub tags_fine : Fine (Written.Length 4)
-tags_fine = (tags_accepted_exactly Kind.Data single_tags long (Written.Length 4) (single ++ (9 ∷ [])) tags_read tags_bytes).complete one_taken
+pub tags_fine : Fine (Ok 4)
+tags_fine = (tags_accepted_exactly Kind.Data single_tags long (Ok 4) (single ++ (9 ∷ [])) tags_read tags_bytes).complete one_taken
 
 -- an element that is still open at the end
 abbrev open_tags : List ℕ
@@ -118,7 +116,7 @@ open_tags = 79 ∷ 80 ∷ 7 ∷ 0 ∷ []
 
 -- it is refused as 12, and the room at exit is what the promise says
 open_refused :
-    TagsPromise Kind.Data open_tags long (Written.Refused (record { number = 12; entry = record { 0 = 0 } })) (tags_left Kind.Data open_tags long).room
+    TagsPromise Kind.Data open_tags long (Err (record { number = 12; entry = record { 0 = 0 } })) (tags_left Kind.Data open_tags long).room
 unfolding run step_by marked closed_with nameless_at misnested tag_fault tag_next tree_end tags_from opened closed rows_of one_tree tree_of left_by room_for
 open_refused = record { told = refl; left = refl }
 
@@ -149,23 +147,23 @@ framed_tree = record {
 }
 
 -- the entry stands at the front of the room, and the tree ended before place 7
-tree_read : TreePromise Kind.Data framed 1 long (TreeRead.Tree 4 7) (single ++ (9 ∷ []))
+tree_read : TreePromise Kind.Data framed 1 long (Ok (4, 7)) (single ++ (9 ∷ []))
 unfolding run step_by marked closed_with nameless_at misnested tag_fault tag_next tree_end tags_from opened closed rows_of one_tree tree_of left_by room_for
 tree_read = record { told = refl; ended = refl; left = refl }
 
 -- where the reader took a tree, the tag list of a tree stands
 pub tree_taken : Fronted Kind.Data framed 1
 tree_taken =
-    (tree_accepted_exactly Kind.Data framed 1 long (TreeRead.Tree 4 7) (single ++ (9 ∷ [])) tree_read framed_bytes).sound (inl (4, (7, refl)))
+    (tree_accepted_exactly Kind.Data framed 1 long (Ok (4, 7)) (single ++ (9 ∷ [])) tree_read framed_bytes).sound (inl (4, (7, refl)))
 
 -- and where the tag list of a tree stands, a tree is taken
-pub tree_fine : FineRead (TreeRead.Tree 4 7)
-tree_fine = (tree_accepted_exactly Kind.Data framed 1 long (TreeRead.Tree 4 7) (single ++ (9 ∷ [])) tree_read framed_bytes).complete framed_tree
+pub tree_fine : FineRead (Ok (4, 7))
+tree_fine = (tree_accepted_exactly Kind.Data framed 1 long (Ok (4, 7)) (single ++ (9 ∷ [])) tree_read framed_bytes).complete framed_tree
 
 -- four numbers are written, those of the entry, and place 7 is told
-pub tree_written : (TreeRead.Tree 4 7 ≡ TreeRead.Tree 4 (1 + 6 * 1)) × (single ++ (9 ∷ []) ≡ front_with single long)
+pub tree_written : (Ok (4, 7) ≡ Ok (4, (1 + 6 * 1))) × (single ++ (9 ∷ []) ≡ front_with single long)
 unfolding framed_tree
-tree_written = tree_told Kind.Data framed 1 long (TreeRead.Tree 4 7) (single ++ (9 ∷ [])) tree_read framed_tree (omega arith)
+tree_written = tree_told Kind.Data framed 1 long (Ok (4, 7)) (single ++ (9 ∷ [])) tree_read framed_tree (omega arith)
 
 -- the two bytes after the tree stand at the place that is told
 pub tree_after : drop 7 framed ≡ 83 ∷ 69 ∷ []
@@ -173,52 +171,52 @@ unfolding framed_tree
 tree_after = tree_rest Kind.Data framed 1 framed_tree
 
 -- a room of three numbers is too small for it
-tree_refused : TreePromise Kind.Data framed 1 nines (TreeRead.Refused (record { number = 10; entry = record { 0 = 0 } })) nines
+tree_refused : TreePromise Kind.Data framed 1 nines (Err (record { number = 10; entry = record { 0 = 0 } })) nines
 unfolding run step_by marked closed_with nameless_at misnested tag_fault tag_next tree_end tags_from opened closed rows_of one_tree tree_of left_by room_for
 tree_refused = record { told = refl; ended = refl; left = refl }
 
 -- 10 was given because nothing before room is refused, and the entry is longer than the room
 pub tree_short : TenExactly 10 0 single nines
 unfolding run step_by marked closed_with nameless_at misnested tag_fault tag_next tree_end tags_from opened closed rows_of one_tree tree_of
-tree_short = tree_ten_exactly Kind.Data framed 1 nines (TreeRead.Refused (record { number = 10; entry = record { 0 = 0 } })) nines tree_refused
+tree_short = tree_ten_exactly Kind.Data framed 1 nines (Err (record { number = 10; entry = record { 0 = 0 } })) nines tree_refused
 
 -- ---- there and back
 
 -- the signature written as a tag list, and one nine beyond it
-back_written : BackPromise Kind.Data single tag_room (Written.Length 6) (single_tags ++ (9 ∷ []))
+back_written : BackPromise Kind.Data single tag_room (Ok 6) (single_tags ++ (9 ∷ []))
 unfolding run turn_within length_fault in_range step_of close_of nameless second_root accepted cell tags_of tag_bytes row_from back_left left_by room_for
 back_written = record { told = refl; left = refl }
 
 -- the tag list read as numbers and written back is the tag list
-pub tags_again : (Written.Length 6 ≡ Written.Length 6) × (single_tags ++ (9 ∷ []) ≡ front_with single_tags tag_room)
+pub tags_again : (Ok 6 ≡ Ok 6) × (single_tags ++ (9 ∷ []) ≡ front_with single_tags tag_room)
 tags_again =
     tags_there_and_back Kind.Data single_tags tags_bytes long (single ++ (9 ∷ [])) 4 tags_read single (9 ∷ []) refl refl
-    tag_room (Written.Length 6) (single_tags ++ (9 ∷ [])) back_written (omega arith)
+    tag_room (Ok 6) (single_tags ++ (9 ∷ [])) back_written (omega arith)
 
 -- the signature written as a tag list and read back is the signature
-pub single_again : (Written.Length 4 ≡ Written.Length 4) × (single ++ (9 ∷ []) ≡ front_with single long)
+pub single_again : (Ok 4 ≡ Ok 4) × (single ++ (9 ∷ []) ≡ front_with single long)
 single_again =
     tags_back_and_there Kind.Data single single_words tag_room (single_tags ++ (9 ∷ [])) 6 back_written single_tags (9 ∷ []) refl refl
-    long (Written.Length 4) (single ++ (9 ∷ [])) tags_read (omega arith)
+    long (Ok 4) (single ++ (9 ∷ [])) tags_read (omega arith)
 
 -- the signature record read as numbers
-record_read : ReadPromise single_record long (Written.Length 4) (single ++ (9 ∷ []))
+record_read : ReadPromise single_record long (Ok 4) (single ++ (9 ∷ []))
 unfolding run step_by marked record_fault records_end numbers_from left_by room_for
 record_read = record { told = refl; left = refl }
 
 -- the signature written as a record
-record_written : WritePromise single record_room (Written.Length 10) (single_record ++ (9 ∷ []))
+record_written : WritePromise single record_room (Ok 10) (single_record ++ (9 ∷ []))
 unfolding length_fault bytes_from nameless_from write_fault left_by room_for
 record_written = record { told = refl; left = refl }
 
 -- the record read as numbers and written back is the record
-pub record_again : (Written.Length 10 ≡ Written.Length 10) × (single_record ++ (9 ∷ []) ≡ front_with single_record record_room)
+pub record_again : (Ok 10 ≡ Ok 10) × (single_record ++ (9 ∷ []) ≡ front_with single_record record_room)
 record_again =
     records_there_and_back single_record record_bytes long (single ++ (9 ∷ [])) 4 record_read single (9 ∷ []) refl refl
-    record_room (Written.Length 10) (single_record ++ (9 ∷ [])) record_written (omega arith)
+    record_room (Ok 10) (single_record ++ (9 ∷ [])) record_written (omega arith)
 
 -- the signature written as a record and read back is the signature
-pub entry_again : (Written.Length 4 ≡ Written.Length 4) × (single ++ (9 ∷ []) ≡ front_with single long)
+pub entry_again : (Ok 4 ≡ Ok 4) × (single ++ (9 ∷ []) ≡ front_with single long)
 entry_again =
     records_back_and_there single single_words record_room (single_record ++ (9 ∷ [])) 10 record_written single_record (9 ∷ []) refl refl
-    long (Written.Length 4) (single ++ (9 ∷ [])) record_read (omega arith)
+    long (Ok 4) (single ++ (9 ∷ [])) record_read (omega arith)

@@ -2,7 +2,7 @@
 use Rattle.terms.proofs.Lengths.{length_cut, length_whole, length_over, length_fine}
 use mathlib.Core.Path.{sym}
 use native.Mathlib.Omega.{arith}
-use Rattle.terms.proofs.length_fault.Goals as goal
+use Rattle.terms.proofs.test_length.Goals as goal
 
 pub returns-then-len : goal.returns-then-len
 returns-then-len c = sym (length_cut _ _ _ c.if-len.true)

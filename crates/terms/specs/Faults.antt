@@ -1,0 +1,32 @@
+-- The faults by document 01's numbers.
+--   number_of f      the number of a fault
+--   unentered f      the refusal with this fault that names no entry
+--   tested r         what a test came to, in numbers: the number of the fault, or 0
+use Rattle.std.specs.Prelude.{ℕ, Result, Ok, Err}
+use Rattle.terms.specs.declared.Fault.{Fault}
+use Rattle.terms.specs.declared.Refusal.{Refusal}
+
+-- "1 cut", "2 unknown mark", "3 nameless", "4 not open", "5 wrong post", "6 wrong ff", "7 too many", "8 bad argument", "9 bad state", "10 no room",
+-- "11 bad pointer", "12 bad nesting"
+abbrev pub number_of : Fault → ℕ
+number_of Fault.Cut = 1
+number_of Fault.UnknownMark = 2
+number_of Fault.Nameless = 3
+number_of Fault.NotOpen = 4
+number_of Fault.WrongPost = 5
+number_of Fault.WrongFf = 6
+number_of Fault.TooMany = 7
+number_of Fault.BadArgument = 8
+number_of Fault.BadState = 9
+number_of Fault.NoRoom = 10
+number_of Fault.BadPointer = 11
+number_of Fault.BadNesting = 12
+
+-- "its number and 0 for every other number"
+abbrev pub unentered : Fault → Refusal
+unentered f = record { number = number_of f; entry = record { 0 = 0 } }
+
+-- the number of the fault that a test found, or 0
+abbrev pub tested : Result Unit Fault → ℕ
+tested (Ok _) = 0
+tested (Err f) = number_of f
