@@ -90,7 +90,9 @@ fn step(sig: &[u16], n: u16, any_name: bool, state: CheckState) -> Result<CheckS
     let i = state.next.0;
     let top = state.top.0;
     let closed = state.closed.0;
-    test_entry(sig, n, any_name, i).map_err(|fault| fault.at(i))?;
+    if let Err(fault) = test_entry(sig, n, any_name, i) {
+        return Err(fault.at(i));
+    }
     if opens(sig, n, i, top) {
         return Ok(CheckState {
             next: PreRank(i + 1),
@@ -98,7 +100,9 @@ fn step(sig: &[u16], n: u16, any_name: bool, state: CheckState) -> Result<CheckS
             closed: state.closed,
         });
     }
-    test_close(sig, i, top, closed).map_err(|fault| fault.at(close_entry(i, top, closed)))?;
+    if let Err(fault) = test_close(sig, i, top, closed) {
+        return Err(fault.at(close_entry(i, top, closed)));
+    }
     Ok(CheckState {
         next: state.next,
         top: PreRank(number(sig, top, 3)),
