@@ -8,6 +8,6 @@ use Rattle.checking.proofs.steps.run.Given as goal
 
 abbrev pub invariant-loop-steps : goal.invariant-loop-steps
 invariant-loop-steps l = record {
-  within = Ranges l.n l.state;
-  same = rest_of l.any_name l.n (entries_of width l.sig) l.budget 0 l.fn.start ≡ rest_of l.any_name l.n (entries_of width l.sig) (l.budget - l.steps) l.steps l.state;
+  within : Ranges l.n l.state;
+  same : rest_of l.any_name l.n (entries_of width l.sig) l.budget 0 l.fn.start ≡ rest_of l.any_name l.n (entries_of width l.sig) (l.budget - l.steps) l.steps l.state;
 }
