@@ -24,13 +24,13 @@ use Rattle.fits_rows.specs.declared.Stage.{Stage}
 use Rattle.fits.specs.declared.Fit.{Fit}
 use Rattle.fits.specs.Stages.{stage_number}
 use Rattle.fits.specs.FitTurn.{fit_at}
-use Rattle.walk_numbers.specs.Walk as walks
-use Rattle.walk_numbers.specs.Walk.{phase_of, phase_number, sixteen, outside, walk_of, walk_numbers, WalkSaid}
-use Rattle.walk_numbers.proofs.Laws.{walk_outside, kept_given, kept_walk}
-use Rattle.calls_fits.specs.Fits as fits
-use Rattle.calls_fits.specs.Fits.{stage_of, fit_state_of, fit_numbers, FitSaid}
-use Rattle.calls_fits.proofs.Laws as fit
-use Rattle.calls_fits.proofs.Laws.{fit_outside, fit_inside, kept_fit}
+use Rattle.telling.specs.Walk as walks
+use Rattle.telling.specs.Walk.{phase_of, phase_number, sixteen, outside, walk_of, walk_numbers, WalkSaid}
+use Rattle.telling.proofs.WalkLaws.{walk_outside, kept_given, kept_walk}
+use Rattle.telling.specs.Fits as fits
+use Rattle.telling.specs.Fits.{stage_of, fit_state_of, fit_numbers, FitSaid}
+use Rattle.telling.proofs.FitLaws as fit
+use Rattle.telling.proofs.FitLaws.{fit_outside, fit_inside, kept_fit}
 use Rattle.terms.specs.declared.Turn.{Turn}
 
 -- ---- numbers of a list from a place on

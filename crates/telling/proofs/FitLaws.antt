@@ -8,7 +8,7 @@ use Rattle.fits_rows.specs.declared.Stage.{Stage}
 use Rattle.fits.specs.declared.Fit.{Fit}
 use Rattle.fits.specs.Stages.{stage_number}
 use Rattle.fits.specs.FitTurn.{fit_at}
-use Rattle.calls_fits.specs.Fits.{stage_of, outside, fit_state_of, fit_numbers, kept_of}
+use Rattle.telling.specs.Fits.{stage_of, outside, fit_state_of, fit_numbers, kept_of}
 
 pub stage_asking : (k : ℕ) → k ≡ 0 → stage_of k ≡ Stage.Asking
 stage_asking k h = simp (eq-eqb k 0 h)

@@ -7,7 +7,8 @@ use borrow.Author.Tests.{eq-eqb, ne_eqb, lt-ltb, le-ltb}
 use Rattle.walk_ranges.specs.declared.Phase.{Phase}
 use Rattle.walking.specs.declared.Walk.{Walk}
 use Rattle.walking.specs.Walking.{at}
-use Rattle.walk_numbers.specs.Walk.{phase_of, phase_number, sixteen, outside, walk_of, walk_numbers, kept_of}
+use Rattle.walk_ranges.specs.Phases.{phase_number}
+use Rattle.telling.specs.Walk.{phase_of, sixteen, outside, walk_of, walk_numbers, kept_of}
 
 pub phase_walking : (k : ℕ) → k ≡ 0 → phase_of k ≡ Phase.Walking
 phase_walking k h = simp (eq-eqb k 0 h)
