@@ -1,21 +1,18 @@
--- The check in plain numbers, as its inner functions answer. No promise of a public call is stated through these.
+-- The step of the check by its cases, as the inner functions answer them. No promise of a public call is stated through these.
 --   number_of x, entry_of x   the number by which a step is refused, or 0, and the entry that it names, or 0
 --   no_parent i up           up cannot be the parent of entry i
 --   entry_fault any n e i    rule 1: the number by which entry i is refused, or 0
 --   opened n e i top        rule 2: whether the step opens entry i
 --   close_entry i top c      the entry that a refused close names, or 0
 --   rest_of any n e b k st   what is left of a turn, k steps taken before
---   told_as                  a stop reason by its numbers
---   halted_at                where a turn came to, of these numbers
---   Reaches r t             where the inner functions came to is this turn
-use Rattle.std.specs.Prelude.{ℕ, ◌-◌, ◌≡◌, Bool, ◌&&◌, ◌||◌, leb, eqb}
+--   stepped r               what the code's step comes to
+use Rattle.std.specs.Prelude.{ℕ, ◌-◌, Result, Ok, Err, Bool, ◌&&◌, ◌||◌, leb, eqb}
 use Rattle.turns.specs.Pick.{pick}
 use Rattle.turns.specs.Turn.{Next, moved, answered, refused, Turned, run}
 use Rattle.trees.specs.Signature.{Entries}
 use Rattle.checking.specs.declared.CheckState.{CheckState}
-use Rattle.checking.specs.declared.steps.Reached.{Reached}
-use Rattle.checking.specs.Rule.{at, accepted, step_of, nameless, second_root}
-use Rattle.terms.specs.Stops.{Told, halt_told}
+use Rattle.terms.specs.declared.Refusal.{Refusal}
+use Rattle.checking.specs.Rule.{accepted, step_of, nameless, second_root}
 
 -- the number by which a step is refused
 unfoldable pub number_of : Next CheckState → ℕ
@@ -49,20 +46,7 @@ close_entry i top closed = pick (eqb top 0) i (pick (eqb closed (i - 1)) 0 top)
 abbrev pub rest_of : Bool → ℕ → Entries → ℕ → ℕ → CheckState → Turned CheckState
 rest_of any n e b k st = run CheckState (accepted n) (step_of any n e) b k st
 
--- 1 the end, 2 the budget, else a refusal with its number and entry
-abbrev pub told_as : ℕ → ℕ → ℕ → Told
-told_as reason number entry =
-    pick (eqb reason 1) (record { reason = 1; number = 0; entry = 0 })
-    (pick (eqb reason 2) (record { reason = 2; number = 0; entry = 0 })
-    (record { reason = 3; number = number; entry = entry }))
-
--- where a turn came to, of these numbers
-abbrev pub halted_at : ℕ → ℕ → ℕ → ℕ → ℕ → ℕ → ℕ → Reached
-halted_at next top closed steps reason number entry =
-    record { next = next; top = top; closed = closed; steps = steps; reason = reason; number = number; entry = entry }
-
--- the state, the steps and the stop are the turn's
-pub record Reaches (r : Reached) (t : Turned CheckState) : Type 0 where
-  pub state : at r.next r.top r.closed ≡ t.state
-  pub steps : r.steps ≡ t.steps
-  pub stop : told_as r.reason r.number r.entry ≡ halt_told t.halt
+-- what the code's step comes to
+abbrev pub stepped : Result CheckState Refusal → Next CheckState
+stepped (Ok to) = moved to
+stepped (Err r) = refused r.number r.entry.0

@@ -1,8 +1,10 @@
 -- The faults by document 01's numbers.
 --   number_of f      the number of a fault
---   unentered f      the refusal with this fault that names no entry
+--   refusal_at f i    the refusal with this fault that names this entry, or none with 0
 --   tested r         what a test came to, in numbers: the number of the fault, or 0
-use Rattle.std.specs.Prelude.{ℕ, Result, Ok, Err}
+--   some_number f     it is never 0
+use Rattle.std.specs.Prelude.{ℕ, ◌≡◌, Result, Ok, Err}
+use Rattle.std.proofs.Common.{arith}
 use Rattle.terms.specs.declared.Fault.{Fault}
 use Rattle.terms.specs.declared.Refusal.{Refusal}
 
@@ -22,11 +24,26 @@ number_of Fault.NoRoom = 10
 number_of Fault.BadPointer = 11
 number_of Fault.BadNesting = 12
 
--- "its number and 0 for every other number"
-abbrev pub unentered : Fault → Refusal
-unentered f = record { number = number_of f; entry = record { 0 = 0 } }
+-- "its number and 0 for every other number; 3 to 6 from the check also name the entry"
+abbrev pub refusal_at : Fault → ℕ → Refusal
+refusal_at f i = record { number = number_of f; entry = record { 0 = i } }
 
 -- the number of the fault that a test found, or 0
 abbrev pub tested : Result Unit Fault → ℕ
 tested (Ok _) = 0
 tested (Err f) = number_of f
+
+-- every fault has a number
+pub some_number : (f : Fault) → number_of f ≡ 0 → ⊥
+some_number Fault.Cut h = absurd (omega arith)
+some_number Fault.UnknownMark h = absurd (omega arith)
+some_number Fault.Nameless h = absurd (omega arith)
+some_number Fault.NotOpen h = absurd (omega arith)
+some_number Fault.WrongPost h = absurd (omega arith)
+some_number Fault.WrongFf h = absurd (omega arith)
+some_number Fault.TooMany h = absurd (omega arith)
+some_number Fault.BadArgument h = absurd (omega arith)
+some_number Fault.BadState h = absurd (omega arith)
+some_number Fault.NoRoom h = absurd (omega arith)
+some_number Fault.BadPointer h = absurd (omega arith)
+some_number Fault.BadNesting h = absurd (omega arith)

@@ -4,6 +4,7 @@
 --   halt_told h      those of what stopped a turn
 --   verdict_told v   those of the whole check's verdict
 --   Handed r t      what a turn hands back is this turn of the rule
+--   refused_first st r   a turn that was refused before its first step
 --   Answered        what a single call answers, in numbers: whether it refused, the refusal's number, the result's length, the entry
 --   worked, refused_as   an answer that worked, and one that refused
 --   answered w      those of the code's answer
@@ -71,3 +72,7 @@ pub record Handed {S : Type 0} (r : Turn S) (t : Turned S) : Type 0 where
   pub state : r.state ≡ t.state
   pub steps : r.steps ≡ t.steps
   pub stop : told r.stop ≡ halt_told t.halt
+
+-- a turn that was refused before its first step: "hands back the state after the steps it took", which is the state given
+abbrev pub refused_first : {S : Type 0} → S → Refusal → Turn S
+refused_first st r = record { state = st; steps = 0; stop = Stop.Refused r }

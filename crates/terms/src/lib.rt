@@ -3,9 +3,10 @@
 
 ghost use Rattle.std.specs.Prelude.{◌≡◌};
 ghost use Rattle.trees.specs.Signature.{width};
-ghost use Rattle.terms.specs.Faults.{number_of, unentered, tested};
-ghost use Rattle.terms.specs.Kinds.{any_name, most};
+ghost use Rattle.terms.specs.Faults.{number_of, refusal_at, tested};
+ghost use Rattle.terms.specs.Kinds.{any_name, kind_of, most};
 ghost use Rattle.terms.specs.Length.{length_fault};
+ghost use Rattle.terms.specs.Stops.{refused_first};
 
 // A rank in the order in which elements open, counted from 1; 0 stands for none.
 #[derive(Clone, Copy)]
@@ -52,6 +53,16 @@ impl Fault {
             Fault::BadNesting => 12,
         }
     }
+
+    // The refusal with this fault that names this entry.
+    pub fn at(self, entry: u16) -> Refusal
+        ensures { result ≡ refusal_at self entry }
+    {
+        Refusal {
+            number: self.number(),
+            entry: PreRank(entry),
+        }
+    }
 }
 
 // A refusal as it is told: its number, and the entry that it names, or 0. The number is no `Fault`: `told_stop` of checked/specs/Apart speaks of every
@@ -63,14 +74,11 @@ pub struct Refusal {
 }
 
 impl From<Fault> for Refusal {
-    ghost from_gives = { λ f r. r ≡ unentered f };
+    ghost from_gives = { λ f r. r ≡ refusal_at f 0 };
 
     // A refusal that names no entry.
     fn from(fault: Fault) -> Refusal {
-        Refusal {
-            number: fault.number(),
-            entry: PreRank(0),
-        }
+        fault.at(0)
     }
 }
 
@@ -89,6 +97,19 @@ pub struct Turn<S> {
     pub state: S,
     pub steps: u64,
     pub stop: Stop,
+}
+
+impl<S> Turn<S> {
+    // A turn that was refused before its first step: the state is as it was given.
+    pub fn refused(state: S, refusal: Refusal) -> Self
+        ensures { result ≡ refused_first state refusal }
+    {
+        Turn {
+            state,
+            steps: 0,
+            stop: Stop::Refused(refusal),
+        }
+    }
 }
 
 // The two kinds of tree: they differ in their greatest size and in whether name 0 is allowed.
@@ -117,6 +138,15 @@ impl Kind {
             Kind::Data => 4096,
             Kind::Twig => 16,
         }
+    }
+}
+
+impl From<u16> for Kind {
+    ghost from_gives = { λ number kind. kind ≡ kind_of number };
+
+    // The kind that a number names: 0 a data tree, any other number a twig.
+    fn from(number: u16) -> Kind {
+        if number == 0 { Kind::Data } else { Kind::Twig }
     }
 }
 

@@ -2,7 +2,7 @@
 use Rattle.checking.proofs.Plain.{fault_past, fault_name, fault_parent, fault_none}
 use mathlib.Core.Path.{sym}
 use native.Mathlib.Omega.{arith}
-use Rattle.checking.proofs.steps.entry_fault.Goals as goal
+use Rattle.checking.proofs.steps.test_entry.Goals as goal
 
 pub returns-then-n-i : goal.returns-then-n-i
 returns-then-n-i c = sym (fault_past _ _ _ _ (omega arith))

@@ -4,7 +4,7 @@ use Rattle.checking.proofs.Cases.{close_none, close_full, close_post, close_ff, 
 use Rattle.checking.proofs.Plain.{number_is, number_moved}
 use mathlib.Core.Path.{◌≡◌, sym, ◌∙◌}
 use native.Mathlib.Omega.{arith}
-use Rattle.checking.proofs.steps.close_fault.Goals as goal
+use Rattle.checking.proofs.steps.test_close.Goals as goal
 
 pub returns-then-top-eq0 : goal.returns-then-top-eq0
 returns-then-top-eq0 c = sym (number_is _ _ _ (close_none _ _ c.if-top-eq0.true))
