@@ -9,7 +9,7 @@
 --   taken_moved            a step that was taken leads there
 --   step_stuck, close_err  a step that is not taken is refused, and by rules 3 and 4 where rule 1 refuses nothing
 use Rattle.std.specs.Prelude.{Some, None, Result, Ok, Err}
-use Rattle.core.specs.Result.{IsErr}
+use Rattle.std.specs.Prelude.{IsErr}
 use Prim.Native.Nat.{ℕ, ◌+◌, ◌-◌, ◌≤◌, ◌<◌}
 use native.Mathlib.Omega.{arith}
 use native.Mathlib.Decide.{ℕ_discrete}
