@@ -1,8 +1,8 @@
 // Printing: what a turn handed back, in numbers.
-
-use terms::{Refusal, Turn};
+use preparing::Prep;
 use std::io;
 use std::io::Write;
+use terms::{Refusal, Turn};
 use trial_lines::{number, numbers, refused, stopped, text, wide};
 use walk_ranges::Phase;
 use walking::Walk;
@@ -33,7 +33,7 @@ fn shown_state(out: &mut impl Write, walk: Walk) -> io::Result<()> {
 pub fn shown_walk(out: &mut impl Write, turn: Turn<Walk>) -> io::Result<()> {
     stopped(out, turn.stop)?;
     number(out, turn.steps)?;
-    shown_state(out, turn.walk)?;
+    shown_state(out, turn.state)?;
     text(out, b"\n")
 }
 

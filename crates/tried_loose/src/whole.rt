@@ -145,7 +145,7 @@ pub fn walk(
         seed = next_seed(seed);
         let turn = state.turn(sig, twig, table, spend(kind, seed));
         let how = stop_number(turn.stop);
-        state = turn.walk;
+        state = turn.state;
         tally = counted(tally, turn.steps, how);
         reported(out, turn, how, print)?;
         if !goes_on(how, tally.answers, enough) {
