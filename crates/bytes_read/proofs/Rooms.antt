@@ -110,17 +110,18 @@ module _ (room₀ all : List ℕ) where
   storing_end room p left s q h = sym (ap (sets room p) q) ∙ s.same ∙ front_sets all room₀ h
 
 -- a part of the room from place i on was written, by the library's copy
-pub put_sets : (room : List ℕ) (i k : ℕ) (xs ys : List ℕ) → ys ≡ xs → k ≡ length xs → i + length xs ≤ length room → put_mid i k room ys ≡ sets room i xs
-put_sets room i k xs ys e q h =
-    put_mid-paste i k room ys xs (length xs) e (sym q) refl
+pub put_sets : (room : List ℕ) (i j k : ℕ) (xs ys : List ℕ) → j ≡ i → ys ≡ xs → k ≡ length xs → i + length xs ≤ length room
+    → put_mid j k room ys ≡ sets room i xs
+put_sets room i j k xs ys p e q h =
+    ap (λ (m : ℕ). put_mid m k room ys) p ∙ put_mid-paste i k room ys xs (length xs) e (sym q) refl
     ∙ ap (λ (l : List ℕ). take i room ++ l ++ drop (i + length xs) room) (take-length xs) ∙ sym (sets-eq xs room i h)
 
 -- and the part right after those that were written from place i on
 pub put_next : (room to : List ℕ) (i j k : ℕ) (xs ys zs : List ℕ) → to ≡ sets room i xs → ys ≡ zs → k ≡ length zs → j ≡ i + length xs
     → i + length xs + length zs ≤ length room → put_mid j k to ys ≡ sets room i (xs ++ zs)
 put_next room to i j k xs ys zs t e q p h =
-    put_sets to j k zs ys e q (omega (arith, ap length t, length-sets room i xs))
-    ∙ ap (λ (r : List ℕ). sets r j zs) t ∙ ap (λ (m : ℕ). sets (sets room i xs) m zs) p ∙ sym (sets_append room i xs zs)
+    put_sets to (i + length xs) j k zs ys p e q (omega (arith, ap length t, length-sets room i xs))
+    ∙ ap (λ (r : List ℕ). sets r (i + length xs) zs) t ∙ sym (sets_append room i xs zs)
 
 -- the two bytes of a number of 16 bits
 pub two_bytes : (v : ℕ) → v < 65536 → to_le_bytes w16 v ≡ low v ∷ high v ∷ []
