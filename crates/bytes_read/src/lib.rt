@@ -26,6 +26,7 @@ pub fn number_at(bytes: &[u8], at: usize) -> u16
 }
 
 // Whether a place has the mark of these two bytes.
+#[tactic(auto, unfolding(crate::specs::Bytes::marked))]
 pub fn is_marked(bytes: &[u8], at: usize, first: u8, second: u8) -> bool
     ensures { result ≡ marked bytes.now at first second }
 {

@@ -47,6 +47,7 @@ fn fill_records(sig: &[u16], size: usize, room: &mut [u8])
 }
 
 // The fault of a signature whose records are to be written.
+#[tactic(auto, unfolding(records::specs::Records::write_fault))]
 fn test_signature(sig: &[u16]) -> Result<(), Fault>
     ensures { tested result ≡ write_fault sig.now }
 {

@@ -12,6 +12,7 @@ use bytes_read::number_at;
 use terms::{Fault, Kind, Refusal};
 
 // The fault of the signature record after count others.
+#[tactic(auto, unfolding(crate::specs::Records::record_fault))]
 fn test_record(bytes: &[u8], count: u16) -> Result<(), Fault>
     requires { 10 * count ≤ length bytes.now }
     ensures { tested result ≡ record_fault bytes.now (record_at count) }
@@ -34,6 +35,7 @@ fn test_record(bytes: &[u8], count: u16) -> Result<(), Fault>
 }
 
 // Whether all records are read.
+#[tactic(auto, unfolding(crate::specs::Records::records_end))]
 fn is_records_end(bytes: &[u8], count: u16) -> bool
     ensures { result ≡ records_end bytes.now (record_at count) }
 {

@@ -4,11 +4,11 @@
 ghost use Rattle.std.specs.Prelude.{◌≡◌, ◌+◌, ◌*◌, ◌≤◌, length};
 ghost use Rattle.trees.specs.Signature.{width};
 ghost use Rattle.terms.specs.Faults.{tested};
-ghost use Rattle.terms.specs.Kinds.{any_name, most};
 ghost use Rattle.terms.specs.Room.{left_by};
 ghost use Rattle.tag_building.specs.Filled.{FilledPromise, BuiltPromise};
 ghost use Rattle.tag_building.specs.Builds.{open_room, close_room, parent_in};
 
+use bytes_read::{is_marked, number_at};
 use tag_scan::{Cursor, Limits};
 use terms::{Fault, Kind};
 
@@ -31,11 +31,12 @@ fn open_entry(own: &mut [u16], size: u16, name: u16, top: u16)
 
 // The entry of an element that closes gets its post and ff; what is given is its parent. Numbers that are too few for it are left alone, so that the
 // building loop need not carry this bound.
+#[tactic(auto, unfolding(crate::specs::Builds::close_room, crate::specs::Builds::parent_in))]
 fn close_entry(own: &mut [u16], top: u16, post: u16, ff: u16) -> u16
     ensures { (result ≡ parent_in own.old top) × (own.new ≡ close_room own.old top post ff) }
 {
     let end = 4 * usize::from(top);
-    if (end == 0) | (own.len() < end) {
+    if end == 0 || own.len() < end {
         return 0;
     }
     let up = own[end - 1];
@@ -46,39 +47,37 @@ fn close_entry(own: &mut [u16], top: u16, post: u16, ff: u16) -> u16
 
 // Judges the tags from a place on, to the end of the bytes or to the close of the root, and builds the signature of those that it has passed in numbers of
 // the reader's own.
-fn build_tree(kind: Kind, bytes: &[u8], whole: bool, from: usize, own: &mut [u16]) -> Judged
-    requires { width * most kind ≤ length own.old }
-    ensures { BuiltPromise «whole» (any_name kind) (most kind) bytes.now from own.old (tested result.verdict) result.at result.count own.new }
+fn build_tree(limits: Limits, bytes: &[u8], whole: bool, from: usize, own: &mut [u16]) -> Judged
+    requires { (limits.most ≤ 4096) × (width * limits.most ≤ length own.old) }
+    ensures { BuiltPromise «whole» limits.any_name limits.most bytes.now from own.old (tested result.verdict) result.at result.count own.new }
 {
-    let limits = Limits::from(kind);
     let mut cursor = Cursor {
         at: from,
         depth: 0,
         count: 0,
     };
     let mut top: u16 = 0;
-    // No `for`: the place moves on by two or four bytes, and it stops at the close of the root or at the first faulty tag.
-    loop {
+    // No `for`: the place moves on by two or four bytes, up to the close of the root or to the first faulty tag.
+    while !cursor.is_tree_end(bytes, whole) {
         let Cursor { at, depth, count } = cursor;
         let verdict = cursor.test_tag(bytes, limits);
         if verdict.is_err() {
             return Judged { at, count, verdict };
         }
-        if bytes_read::is_marked(bytes, at, b'O', b'P') {
-            open_entry(own, count, bytes_read::number_at(bytes, at + 2), top);
+        if is_marked(bytes, at, b'O', b'P') {
+            open_entry(own, count, number_at(bytes, at + 2), top);
             top = count + 1;
             cursor = Cursor { at: at + 4, depth: depth + 1, count: count + 1 };
         } else {
             top = close_entry(own, top, count - depth + 1, count + 1);
             cursor = Cursor { at: at + 2, depth: depth - 1, count };
-            if cursor.is_tree_end(bytes, whole) {
-                return Judged { at: at + 2, count, verdict };
-            }
         }
     }
+    Judged { at: cursor.at, count: cursor.count, verdict: Ok(()) }
 }
 
 // Copies numbers to the front of the room. A room that is too short for them is left alone.
+#[tactic(auto, unfolding(terms::specs::Room::left_by, terms::specs::Room::room_for))]
 fn give_front(numbers: &[u16], room: &mut [u16]) -> Result<(), Fault>
     ensures { (tested result ≡ (left_by 0 0 numbers.now room.old).answer.number) × (room.new ≡ (left_by 0 0 numbers.now room.old).room) }
 {
@@ -94,8 +93,9 @@ fn give_front(numbers: &[u16], room: &mut [u16]) -> Result<(), Fault>
 pub fn read_tags(kind: Kind, bytes: &[u8], whole: bool, from: usize, room: &mut [u16]) -> Judged
     ensures { FilledPromise «whole» kind bytes.now from room.old (tested result.verdict) result.at (4 * result.count) room.new }
 {
+    let limits = Limits::from(kind);
     let mut own = [0u16; 16384];
-    let built = build_tree(kind, bytes, whole, from, &mut own);
+    let built = build_tree(limits, bytes, whole, from, &mut own);
     if built.verdict.is_err() {
         return built;
     }

@@ -23,6 +23,7 @@ impl Cursor {
     ghost use Rattle.tag_scan.specs.Cursors.{scan_of};
 
     // Whether the root is closed.
+    #[tactic(auto, unfolding(crate::specs::TagLists::closed_with))]
     fn is_root_closed(self) -> bool
         ensures { result ≡ root_closed (scan_of self) }
     {
@@ -30,6 +31,7 @@ impl Cursor {
     }
 
     // The fault of the record of an `OP` mark.
+    #[tactic(auto, unfolding(crate::specs::TagLists::tag_fault, crate::specs::TagLists::misnested, crate::specs::TagLists::nameless_at))]
     fn test_open(self, bytes: &[u8], limits: Limits) -> Result<(), Fault>
         requires { (self.at + 2 ≤ length bytes.now) × (opening bytes.now self.at ≡ true) }
         ensures { tested result ≡ tag_fault limits.any_name limits.most bytes.now (scan_of self) }
@@ -48,6 +50,7 @@ impl Cursor {
     }
 
     // The fault of the tag that stands there.
+    #[tactic(auto, unfolding(crate::specs::TagLists::tag_fault, crate::specs::TagLists::misnested))]
     pub fn test_tag(self, bytes: &[u8], limits: Limits) -> Result<(), Fault>
         ensures { tested result ≡ tag_fault limits.any_name limits.most bytes.now (scan_of self) }
     {
@@ -67,6 +70,7 @@ impl Cursor {
     }
 
     // Whether a tree is read: to the end of the bytes where the whole of them is asked for.
+    #[tactic(auto, unfolding(crate::specs::TagLists::tree_end))]
     pub fn is_tree_end(self, bytes: &[u8], whole: bool) -> bool
         ensures { result ≡ tree_end «whole» bytes.now (scan_of self) }
     {

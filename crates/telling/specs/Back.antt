@@ -4,8 +4,8 @@
 --   third_back                 one of three, numbered from 0, is told by its number
 --   check_numbers_back, prepare_numbers_back, walk_numbers_back, fits_numbers_back   what was read is written as the same numbers
 --   walk_back, fit_back        the same, where the numbers stand for a state
-use Rattle.std.specs.Prelude.{ℕ, zero, suc, ◌+◌, ◌≤◌, ◌<◌, ◌≡◌, refl, Bool, true, false, List, [], ◌∷◌, ◌++◌, eqb, ltb, length, get_or, drop, take}
-use Rattle.std.proofs.Common.{ap, ◌∙◌, sym, arith, drop_of_length-le, drop-cons, eqb-true, le-ltb}
+use Rattle.std.specs.Prelude.{ℕ, zero, suc, ◌+◌, ◌≤◌, ◌<◌, ◌≡◌, refl, Bool, true, false, List, [], ◌∷◌, ◌++◌, eqb, ltb, length, get_or, drop, slice_set}
+use Rattle.std.proofs.Common.{ap, ◌∙◌, sym, subst, arith, drop_of_length-le, drop-cons, eqb-true, le-ltb}
 use Rattle.std.proofs.lemmas.Bool.{eqb-false, ltb-false}
 use Rattle.turns.specs.Pick.{pick}
 use Rattle.preparing.specs.PrepTurn.{prep_at}
@@ -85,3 +85,11 @@ walk_back l h k = walk_numbers_back l h (ltb-false 2 (get_or l 18 0) k)
 
 pub fit_back : (l : List ℕ) → length l ≡ 3 → fit_void l ≡ false → fit_numbers (fit_state_of l) ≡ l
 fit_back l h k = fits_numbers_back l h (ltb-false 2 (get_or l 2 0) k)
+
+-- ---- a walk's numbers, put down one after the other
+
+-- three numbers set behind sixteen
+pub sixteen_set : (l : List ℕ) (a b c : ℕ) → length l ≡ 16
+    → slice_set (slice_set (slice_set (l ++ 0 ∷ 0 ∷ 0 ∷ []) 16 a) 17 b) 18 c ≡ sixteen l (a ∷ b ∷ c ∷ [])
+sixteen_set l a b c h =
+    subst (λ (x : List ℕ). slice_set (slice_set (slice_set (x ++ 0 ∷ 0 ∷ 0 ∷ []) 16 a) 17 b) 18 c ≡ sixteen l (a ∷ b ∷ c ∷ [])) (sixteen_whole l h) refl

@@ -23,16 +23,16 @@ pub trait Saved<const N: usize>: Copy {
     ghost is_void: { List ℕ → Bool };
 
     // The state that N numbers stand for. It is outside every range where they stand for none.
-    fn from_numbers(given: [u16; N]) -> Self
-        ensures { result ≡ from_numbers given.entry };
+    fn from_numbers(given: &[u16; N]) -> Self
+        ensures { result ≡ from_numbers given.now };
 
     // A state's numbers.
     fn numbers(self) -> [u16; N]
         ensures { result ≡ numbers self };
 
     // Whether these numbers stand for no state.
-    fn is_void(given: [u16; N]) -> bool
-        ensures { result ≡ is_void given.entry };
+    fn is_void(given: &[u16; N]) -> bool
+        ensures { result ≡ is_void given.now };
 
     // Numbers that stand for a state are that state's.
     ghost back: { (l : List ℕ) → length l ≡ N → is_void l ≡ false → numbers (from_numbers l) ≡ l };
@@ -47,7 +47,7 @@ pub fn tell_turn<S: Saved<N>, const N: usize>(
     ensures { TurnSaid (kept_over S.is_void S.numbers state.old) turned result state.new
         out.new }
 {
-    if !S::is_void(*state) {
+    if !S::is_void(state) {
         *state = turned.state.numbers();
     }
     tell_stop(turned.stop, turned.steps, out)
@@ -63,7 +63,7 @@ impl Saved<3> for CheckState {
 
     ghost back = { λ l h k. check_numbers_back l h };
 
-    fn from_numbers(given: [u16; 3]) -> CheckState {
+    fn from_numbers(given: &[u16; 3]) -> CheckState {
         CheckState {
             next: PreRank(given[0]),
             top: PreRank(given[1]),
@@ -75,7 +75,7 @@ impl Saved<3> for CheckState {
         [self.next.0, self.top.0, self.closed.0]
     }
 
-    fn is_void(_given: [u16; 3]) -> bool {
+    fn is_void(_given: &[u16; 3]) -> bool {
         false
     }
 }
@@ -90,7 +90,7 @@ impl Saved<1> for Prep {
 
     ghost back = { λ l h k. prepare_numbers_back l h };
 
-    fn from_numbers(given: [u16; 1]) -> Prep {
+    fn from_numbers(given: &[u16; 1]) -> Prep {
         Prep {
             next: PreRank(given[0]),
         }
@@ -100,7 +100,7 @@ impl Saved<1> for Prep {
         [self.next.0]
     }
 
-    fn is_void(_given: [u16; 1]) -> bool {
+    fn is_void(_given: &[u16; 1]) -> bool {
         false
     }
 }
@@ -115,7 +115,7 @@ impl Saved<3> for Fit {
 
     ghost back = { fit_back };
 
-    fn from_numbers(given: [u16; 3]) -> Fit {
+    fn from_numbers(given: &[u16; 3]) -> Fit {
         match Stage::try_from(given[2]) {
             Ok(stage) => Fit {
                 node: given[0],
@@ -134,7 +134,7 @@ impl Saved<3> for Fit {
         [self.node, self.entry.0, u16::from(self.stage)]
     }
 
-    fn is_void(given: [u16; 3]) -> bool {
+    fn is_void(given: &[u16; 3]) -> bool {
         Stage::try_from(given[2]).is_err()
     }
 }
@@ -149,7 +149,7 @@ impl Saved<19> for Walk {
 
     ghost back = { walk_back };
 
-    fn from_numbers(given: [u16; 19]) -> Walk {
+    fn from_numbers(given: &[u16; 19]) -> Walk {
         let mut images = [0; 16];
         match Phase::try_from(given[18]) {
             Ok(phase) => {
@@ -179,7 +179,7 @@ impl Saved<19> for Walk {
         numbers
     }
 
-    fn is_void(given: [u16; 19]) -> bool {
+    fn is_void(given: &[u16; 19]) -> bool {
         Phase::try_from(given[18]).is_err()
     }
 }

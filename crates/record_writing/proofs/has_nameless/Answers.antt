@@ -1,19 +1,14 @@
 -- Whether a name is 0 from the start on is whether one is from here on; the first one that is 0 settles it.
-use mathlib.Core.Path.{ap, sym, ◌∙◌}
-use native.Mathlib.Nat.{sub-zero}
-use Rattle.records.specs.Records.{nameless_from}
+use mathlib.Core.Path.{sym, ◌∙◌}
 use Rattle.records.proofs.Filling.{nameless_here, nameless_later, nameless_none}
 use native.Mathlib.Omega.{arith}
 use Rattle.record_writing.proofs.has_nameless.Goals as goal
 
-pub loop-i-init : goal.loop-i-init
-loop-i-init c = (ap (nameless_from _ 0) (sym (sub-zero _)), omega arith)
-
 pub returns-then-sig-i-eq0 : goal.returns-then-sig-i-eq0
-returns-then-sig-i-eq0 c = sym (c.loop-i.invariant.0 ∙ nameless_here _ _ _ (omega arith) (omega arith))
+returns-then-sig-i-eq0 c = sym (c.loop-i.invariant ∙ nameless_here _ _ _ (omega arith) (omega arith))
 
 pub loop-i-preserved : goal.loop-i-preserved
-loop-i-preserved c = (c.loop-i.invariant.0 ∙ nameless_later _ _ _ (omega arith) (omega arith), omega arith)
+loop-i-preserved c = c.loop-i.invariant ∙ nameless_later _ _ _ (omega arith) (omega arith)
 
 pub returns : goal.returns
-returns c = sym (c.loop-i.invariant.0 ∙ nameless_none _ _ _ (omega arith))
+returns c = sym (c.loop-i.invariant ∙ nameless_none _ _ _ (omega arith))

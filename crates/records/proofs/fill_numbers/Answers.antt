@@ -7,22 +7,10 @@ use Rattle.bytes_read.proofs.Rooms.{storing_start, storing_end}
 use native.Mathlib.Omega.{arith}
 use Rattle.records.proofs.fill_numbers.Goals as goal
 
-pub loop-i-init : goal.loop-i-init
-loop-i-init c = (storing_start _ _ _ (ap (numbers_from _ 0) (sub-zero _)), omega arith)
-
-pub put_entry-requires : goal.put_entry-requires
-put_entry-requires c = omega (arith, c.loop-i.invariant.0.long)
-
 pub loop-i-preserved : goal.loop-i-preserved
 loop-i-preserved c =
-    let l = c.loop-i in (
-      numbers_stored _ _ _ _ _ _ _ _ _ _ l.invariant.0 (omega arith) c.put_entry.ensures
-          c.number_in-name.ensures c.number_in-post.ensures c.number_in-ff.ensures c.number_in-fa.ensures,
-      omega arith,
-    )
-
-pub shape_of-room : goal.shape_of-room
-shape_of-room c = c.loop-i.invariant.0.long
+    numbers_stored _ _ _ _ _ _ _ _ _ _ c.loop-i.invariant (omega arith) c.put_entry.ensures
+    c.number_at-name.ensures c.number_at-post.ensures c.number_at-ff.ensures c.number_at-fa.ensures
 
 pub returns : goal.returns
-returns c = storing_end _ _ _ _ _ c.loop-i.invariant.0 (numbers_none _ _ _ (omega arith)) (omega (arith, numbers_length c.args.bytes.now 0 c.args.size))
+returns c = storing_end _ _ _ _ _ c.loop-i.invariant (numbers_none _ _ _ (omega arith)) (omega (arith, numbers_length c.args.bytes.now 0 c.args.size))
