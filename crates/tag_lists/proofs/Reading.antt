@@ -45,6 +45,10 @@ module _ (number : ℕ) (result room : List ℕ) (g : ℕ) (is : g ≡ (left_by 
           let z : ◌≡◌ {A = ℕ} 10 0 = sym (is ∙ ap (λ (x : Left). x.answer.number) (short_is number 0 result room n (omega arith))) ∙ h in absurd (omega arith)
       go (yes n) (yes l) = ap (λ (x : Left). x.answer) (written_is number 0 result room n l)
 
+-- a refusal of a reading by its number
+abbrev pub unread_by : ℕ → TreeRead
+unread_by number = Err (record { number = number; entry = record { 0 = 0 } })
+
 -- the answers: g, at and l are what reading into the room came to; a refusal is handed on by `?`
 module _ (number end size : ℕ) (result room : List ℕ) (g at l : ℕ) (after : List ℕ) (h : Filled number end size result room g at l after) where
   read_as : (r : TreeRead) (x : Answered) → (left_by number 0 result room).answer ≡ x → (read_told r).answer ≡ x

@@ -51,6 +51,15 @@ pub fn numbers_into(list: &[u8], room: &mut [u16]) -> usize {
     list.split(|c| *c == b' ').count()
 }
 
+// The first n of a list, or all of them.
+pub fn front<T>(list: &[T], n: usize) -> &[T] {
+    &list[..n.min(list.len())]
+}
+
+// A word that names nothing to try, as the number that it stands for.
+#[derive(Clone, Copy)]
+pub struct UnknownWord(pub u16);
+
 // A number of a line as a budget: 65,535 stands for the greatest one.
 pub fn great(x: u16) -> u64 {
     if x == u16::MAX {

@@ -1,7 +1,7 @@
 // The trees that lines name by a letter and the number of their elements.
 ghost use Rattle.std.specs.Prelude.{◌≤◌, ℕ};
 
-use crate::fields::numbers_into;
+use crate::fields::{front, numbers_into};
 
 // Document 01's Ten: name, post, ff and fa of each element.
 const TEN: [u16; 40] = [
@@ -132,6 +132,5 @@ pub fn tree_into<'a>(list: &[u8], room: &'a mut [u16]) -> &'a [u16] {
         Some(letter) if b'A' <= *letter => named_into(room, *letter, list),
         _ => numbers_into(list, room),
     };
-    let fits = len.min(room.len());
-    &room[..fits]
+    front(room, len)
 }

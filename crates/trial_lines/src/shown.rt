@@ -4,11 +4,11 @@ use std::io;
 use std::io::Write;
 use terms::{Refusal, Stop};
 
-// Numbers, each after a blank.
+// Numbers of one type, each after a blank.
 #[derive(Clone, Copy)]
-pub struct Row<'a>(pub &'a [u16]);
+pub struct Row<'a, T>(pub &'a [T]);
 
-impl fmt::Display for Row<'_> {
+impl<T: fmt::Display> fmt::Display for Row<'_, T> {
     fn fmt<W: fmt::Write>(&self, f: &mut fmt::Formatter<W>) -> fmt::Result {
         for x in self.0 {
             write!(f, " {x}")?;
@@ -25,6 +25,11 @@ pub fn told<W: Write, T, F: FnOnce(&mut W, T) -> io::Result<()>>(out: &mut W, an
         Ok(value) => shows(out, value),
         Err(refusal) => write!(out, " refused {} {}", refusal.number, refusal.entry.0),
     }
+}
+
+// What a call that writes into a room answers.
+pub fn length_told<W: Write>(out: &mut W, answer: Result<usize, Refusal>) -> io::Result<()> {
+    told(out, answer, |out, len| write!(out, " length {len}"))
 }
 
 // What stopped a turn: 0 an answer, 1 the end, 2 the budget, 3 a refusal, with its number and entry, or 0 and 0.
