@@ -170,6 +170,7 @@ impl Saved<19> for Walk {
         }
     }
 
+    #[tactic(auto, using(crate::specs::Back::sixteen_set))]
     fn numbers(self) -> [u16; 19] {
         let mut numbers = [0; 19];
         numbers[..16].copy_from_slice(&self.images);

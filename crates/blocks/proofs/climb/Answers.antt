@@ -1,4 +1,4 @@
-use Rattle.std.proofs.Common.{ap, arith, refl}
+use Rattle.std.proofs.Common.{ap, arith}
 use Rattle.trees.specs.Signature.{entries_of, width}
 use Rattle.xpath.specs.Axes.{level_of}
 use Rattle.xpath.specs.Levels.{level_root, level_up, level_high}

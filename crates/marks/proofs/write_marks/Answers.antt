@@ -1,6 +1,6 @@
-use Rattle.std.proofs.Common.{refl, ap, ◌∙◌, sym, ℕ, Bool, true, false, ◌≡◌, ◌+◌, ◌<◌, arith, length, slice_set, List}
+use Rattle.std.proofs.Common.{refl, ap, ◌∙◌, sym, ℕ, true, false, ◌≡◌, ◌+◌, ◌<◌, arith, length, slice_set}
 use Rattle.xpath.specs.Select.{up_to}
-use Rattle.xpath.specs.SelectLaws.{front, front_length}
+use Rattle.xpath.specs.SelectLaws.{front}
 use Rattle.marks.specs.Marks.{marked}
 use Rattle.marks.proofs.Marking.{count_yes, count_no, count_room, write_yes, write_no}
 use Rattle.marks.proofs.write_marks.Goals as goal
