@@ -1,5 +1,5 @@
 -- What the calls have in common: the whole check first, then the arguments.
---   ready_of          what an accepted signature gives
+--   ready_of, ready   what an accepted signature gives; the same of one that the code carries with its number of entries
 --   after_accepted, after_refused   which case of after_check holds
 --   rank_…            whether a rank is one of an entry
 --   level_…, place_…  which case of an answer holds
@@ -40,6 +40,9 @@ ready_of s v p e =
       small = x.small;
       facts = x.of.facts;
     }
+
+pub ready : (s : List ℕ) (n : ℕ) → WholePromise Kind.Data s (Ok tt) → n ≡ entries s → Ready s n
+ready s n p q = subst (Ready s) (sym q) (ready_of s (Ok tt) p refl)
 
 -- ---- after the check
 

@@ -32,7 +32,7 @@ use Rattle.checked.specs.Menus.{ten}
 use Rattle.telling.specs.Numbers.{kind_of, out_of, TurnTold}
 use Rattle.telling.specs.States.{check_state_of, check_numbers, CheckSaid}
 use Rattle.signature_calls.specs.Check.{CheckTurnPromise}
-use Rattle.calls_told.specs.Back.{check_numbers_back}
+use Rattle.telling.specs.Back.{check_numbers_back}
 use Rattle.calls_told.specs.Chains.{Called, stop_number, steps, reason_end, no_steps, chain_ran}
 use Rattle.terms.specs.declared.Turn.{Turn}
 

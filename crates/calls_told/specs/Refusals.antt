@@ -46,8 +46,8 @@ use Rattle.loose_turns.specs.Refusals as turns
 use Rattle.twig_turns.specs.Refusals.{turn_refusals}
 use Rattle.telling.specs.Numbers.{kind_of}
 use Rattle.telling.specs.States.{check_state_of}
-use Rattle.walk_numbers.specs.Walk.{walk_of}
-use Rattle.calls_fits.specs.Fits.{fit_state_of}
+use Rattle.telling.specs.Walk.{walk_of}
+use Rattle.telling.specs.Fits.{fit_state_of}
 use Rattle.record_calls.specs.Records.{ReadNumbers, WriteNumbers, TagsNumbers, BackNumbers}
 use Rattle.signature_calls.specs.Check.{CheckTurnPromise}
 use Rattle.signature_calls.specs.Axes.{LevelNumbers, PlaceNumbers, AxisNumbers}

@@ -32,8 +32,8 @@ use Rattle.loose_turns.specs.Refusals as loose
 use Rattle.loose_turns.specs.Refusals.{TableTen}
 use Rattle.axes_told.specs.Tens as axes
 use Rattle.telling.specs.Numbers.{kind_of}
-use Rattle.walk_numbers.specs.Walk.{walk_of}
-use Rattle.calls_fits.specs.Fits.{fit_state_of}
+use Rattle.telling.specs.Walk.{walk_of}
+use Rattle.telling.specs.Fits.{fit_state_of}
 use Rattle.record_calls.specs.Records.{ReadNumbers, WriteNumbers, TagsNumbers, BackNumbers}
 use Rattle.signature_calls.specs.Axes.{AxisNumbers}
 use Rattle.twig_calls.specs.Fits.{FitsTurnPromise}

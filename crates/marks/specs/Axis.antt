@@ -1,9 +1,13 @@
 -- The axis call.
+--   axis_number axis               the number of an axis
+--   Numbered number r              r is the axis with this number, or a bad argument where none has it
 --   answer_in s cs axis name p     the ranks that are answered
 --   arguments_fine                 no refusal 8
 --   axis_within, axis_answer        what is left, refusals in their order
 --   AxisPromise                   the call answers and leaves just that
-use Rattle.std.specs.Prelude.{ℕ, List, Bool, ◌&&◌, leb}
+--   JudgedFine number n cs r       r is the axis with this number, where no argument is refused, or a bad argument
+--   Judged, Refuses                what a request that is judged, and one that is refused, say of the whole call
+use Rattle.std.specs.Prelude.{ℕ, ◌≡◌, ◌<◌, List, Bool, true, false, ◌&&◌, leb, Result, MatchResult}
 use Rattle.turns.specs.Pick.{pick}
 use Rattle.trees.specs.Signature.{entries_of, width, entries}
 use Rattle.terms.specs.Room.{Left, refused_left, room_for, Leaves}
@@ -11,6 +15,27 @@ use Rattle.xpath.specs.Select.{rises, within}
 use Rattle.xpath.specs.Axes.{answer_of}
 use Rattle.blocks.specs.Checked.{after_check}
 use Rattle.terms.specs.Stops.{Written}
+use Rattle.terms.specs.declared.Fault.{Fault}
+use Rattle.marks.specs.declared.axis_numbers.Axis.{Axis}
+
+-- "0 self, 1 child, 2 descendant, 3 descendant-or-self, 4 parent, 5 ancestor, 6 ancestor-or-self, 7 following, 8 preceding,
+-- 9 following-sibling, 10 preceding-sibling"
+abbrev pub axis_number : Axis → ℕ
+axis_number Axis.Itself = 0
+axis_number Axis.Child = 1
+axis_number Axis.Descendant = 2
+axis_number Axis.DescendantOrSelf = 3
+axis_number Axis.Parent = 4
+axis_number Axis.Ancestor = 5
+axis_number Axis.AncestorOrSelf = 6
+axis_number Axis.Following = 7
+axis_number Axis.Preceding = 8
+axis_number Axis.FollowingSibling = 9
+axis_number Axis.PrecedingSibling = 10
+
+-- the axis with this number, or 8 for an "axis over 10"
+abbrev pub Numbered : ℕ → Result Axis Fault → Type 0
+Numbered number r = MatchResult r (λ axis. axis_number axis ≡ number) (λ fault. (fault ≡ Fault.BadArgument) × (10 < number))
 
 -- parent and name are those of the signature's entries
 abbrev pub answer_in : List ℕ → List ℕ → ℕ → ℕ → ℕ → List ℕ
@@ -32,3 +57,21 @@ axis_answer s contexts axis name p room = after_check s (refused_left room) (axi
 -- the call answers and leaves just that
 abbrev pub AxisPromise : List ℕ → List ℕ → ℕ → ℕ → ℕ → List ℕ → Written → List ℕ → Type 0
 AxisPromise s contexts axis name p room r after = Leaves (axis_answer s contexts axis name p room) r after
+
+-- the arguments are judged: the axis with this number where none is refused, else 8
+abbrev pub JudgedFine : ℕ → ℕ → List ℕ → Result Axis Fault → Type 0
+JudgedFine number n contexts r =
+    MatchResult r (λ axis. (axis_number axis ≡ number) × (arguments_fine number n contexts ≡ true))
+    (λ fault. (fault ≡ Fault.BadArgument) × (arguments_fine number n contexts ≡ false))
+
+-- the signature and the arguments that were judged are those that were lent, so that what is left is the answer or the room's refusal
+pub record Judged (s contexts : List ℕ) (axis name : ℕ) (s' contexts' : List ℕ) (axis' name' : ℕ) : Type 0 where
+  pub signature : s' ≡ s
+  pub ranks : contexts' ≡ contexts
+  pub numbered : axis' ≡ axis
+  pub named : name' ≡ name
+  pub left : (p : ℕ) (room : List ℕ) → axis_answer s contexts axis name p room ≡ room_for room (answer_in s contexts axis name p)
+
+-- the call is refused so, whatever the position and the room
+pub record Refuses (s contexts : List ℕ) (axis name number entry : ℕ) : Type 0 where
+  pub left : (p : ℕ) (room : List ℕ) → axis_answer s contexts axis name p room ≡ refused_left room number entry

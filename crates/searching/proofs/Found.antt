@@ -24,7 +24,7 @@ use Rattle.xpath.specs.Select.{up_to}
 use Rattle.xpath.specs.SelectLaws.{up_none, up_grows}
 use Rattle.xpath.specs.Axes.{pth, kept}
 use Rattle.xpath.specs.Kept.{kept_other, kept_position}
-use Rattle.marks.specs.Marks.{marked, Marks}
+use Rattle.marks.specs.Marks.{marked, Marked}
 use Rattle.marks.proofs.Marking.{count_yes, count_no}
 use Rattle.searching.specs.Only.{Only}
 
@@ -98,14 +98,13 @@ module _ (P : ℕ → Bool) where
         at i b = ⊎_elim (λ (w : j < i). kept_other axis p P i (h i (omega arith) b)) (λ (w : i ≤ j). kept_early j i w (omega arith)) (lt_or_ge j i)
 
 -- the only rank gets a mark; a mark at 0 is that of no rank
-pub only_marks : (n : ℕ) (K : ℕ → Bool) (k : ℕ) (m : List ℕ) → n ≤ 4096 → length m ≡ 4097 → Only n K k → Marks n (λ i. marked m i || K i) (set m k 1)
-unfolding marked
+pub only_marks : (n : ℕ) (K : ℕ → Bool) (k : ℕ) (m : List Bool) → n ≤ 4096 → length m ≡ 4097 → Only n K k → Marked n K m (set m k true)
 only_marks n K k m s w o = record { long = simp length-set w; are = λ i l h. go i l h (ℕ_discrete i k) }
   where
-    go : (i : ℕ) → 1 ≤ i → i ≤ n → Dec (i ≡ k) → marked (set m k 1) i ≡ (marked m i || K i)
+    go : (i : ℕ) → 1 ≤ i → i ≤ n → Dec (i ≡ k) → marked (set m k true) i ≡ (marked m i || K i)
     go i l h (yes z) =
-        ap (marked (set m k 1)) z ∙ eq-eqb _ _ (get_or-set_same m k 1 0 (omega (arith, o.high)))
+        ap (marked (set m k true)) z ∙ get_or-set_same m k true false (omega (arith, o.high))
         ∙ sym (ap (λ (b : Bool). marked m i || b) (o.are i l h ∙ eq-eqb i k z) ∙ or-true (marked m i))
     go i l h (no z) =
-        ap (λ (x : ℕ). eqb x 1) (get_or-set_other m k i 1 0 z)
+        get_or-set_other m k i true false z
         ∙ sym (ap (λ (b : Bool). marked m i || b) (o.are i l h ∙ ne_eqb i k z) ∙ or-false (marked m i))

@@ -12,14 +12,12 @@ use terms::PreRank;
 pub fn find_named(sig: &[u16], test: u16, p: u16, after: u16, last: u16) -> u16
     ensures { Only last (pth 0 p (named_after after test (entries_of width sig.now).name)) result }
 {
-    let mut met: u16 = 0;
-    let mut j = after;
-    while j < last {
-        j += 1;
-        let named = is_named(sig, test, PreRank(j));
-        met += named as u16;
+    let mut met = 0;
+    for before in after..last {
+        let named = is_named(sig, test, PreRank(before + 1));
+        met += u16::from(named);
         if named & (met == p) {
-            return j;
+            return before + 1;
         }
     }
     0

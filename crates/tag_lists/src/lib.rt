@@ -7,7 +7,12 @@ use tag_building::read_tags;
 use terms::{Kind, Refusal};
 
 // Reads one tree of a kind from a place of the bytes on into the room, and says where it ended.
-pub fn read_tree(kind: Kind, bytes: &[u8], from: usize, room: &mut [u16]) -> Result<(usize, usize), Refusal>
+pub fn read_tree(
+    kind: Kind,
+    bytes: &[u8],
+    from: usize,
+    room: &mut [u16],
+) -> Result<(usize, usize), Refusal>
     ensures { TreePromise kind bytes.now from room.old result room.new }
 {
     let tree = read_tags(kind, bytes, false, from, room);

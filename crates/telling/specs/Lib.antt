@@ -2,4 +2,7 @@
 pub mod Numbers
 pub mod Answers
 pub mod States
+pub mod Fits
+pub mod Walk
+pub mod Back
 pub mod Once

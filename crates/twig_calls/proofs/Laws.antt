@@ -8,7 +8,7 @@ use Rattle.telling.specs.Numbers.{AnswerTold}
 use Rattle.telling.proofs.Laws.{answer_as, told_as_law}
 use Rattle.fits.specs.declared.Fit.{Fit}
 use Rattle.fits.specs.FitTurn.{FitPromise}
-use Rattle.calls_fits.specs.Fits.{fit_state_of, kept_of, FitSaid}
+use Rattle.telling.specs.Fits.{fit_state_of, kept_of, FitSaid}
 use Rattle.twig_calls.specs.Fits.{FitsTurnPromise}
 use Rattle.twig_calls.specs.Ordered.{OrderedNumbers}
 use Rattle.terms.specs.declared.Turn.{Turn}

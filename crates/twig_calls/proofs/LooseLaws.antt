@@ -10,7 +10,7 @@ use Rattle.walking.specs.WalkTurn.{WalkPromise}
 use Rattle.telling.specs.Answers.{StartSaid}
 use Rattle.telling.specs.States.{prepare_numbers, PrepareSaid}
 use Rattle.telling.proofs.Laws.{says_as, told_as_law}
-use Rattle.walk_numbers.specs.Walk.{walk_of, kept_of, WalkSaid}
+use Rattle.telling.specs.Walk.{walk_of, kept_of, WalkSaid}
 use Rattle.twig_calls.specs.Prepare.{StartNumbers, PrepareTurnPromise}
 use Rattle.twig_calls.specs.Walk.{WalkTurnPromise}
 use Rattle.terms.specs.declared.Turn.{Turn}

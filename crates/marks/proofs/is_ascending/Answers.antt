@@ -1,19 +1,20 @@
-use mathlib.Core.Path.{sym, ◌∙◌}
+use Rattle.std.proofs.Common.{sym, ◌∙◌, arith}
 use Rattle.xpath.specs.Rising.{rising_is, rising_end, rising_low, rising_high, rising_step}
-use native.Mathlib.Omega.{arith}
 use Rattle.marks.proofs.is_ascending.Goals as goal
+use Rattle.marks.proofs.is_ascending.Goals.{then-c-last-via-then-c-last, then-c-last-via-else-c-last+then-n-c}
 
-pub loop-k-init : goal.loop-k-init
-loop-k-init c = ((omega arith), rising_is _ _)
+pub loop-c-init : goal.loop-c-init
+loop-c-init c = rising_is _ _
 
 pub returns-then-c-last : goal.returns-then-c-last
-returns-then-c-last c = sym (c.loop-k.invariant.1 ∙ rising_low _ _ _ _ c.loop-k-test.true c.if-c-last.true)
+returns-then-c-last c =
+    elim c.then-c-last.branch [
+      then-c-last-via-then-c-last w ↦ sym (c.loop-c.invariant ∙ rising_low _ _ _ _ c.loop-c-test.true (omega arith))
+      | then-c-last-via-else-c-last+then-n-c w ↦ sym (c.loop-c.invariant ∙ rising_high _ _ _ _ c.loop-c-test.true (omega arith))
+    ]
 
-pub returns-then-n-c : goal.returns-then-n-c
-returns-then-n-c c = sym (c.loop-k.invariant.1 ∙ rising_high _ _ _ _ c.loop-k-test.true c.if-n-c.true)
-
-pub loop-k-preserved : goal.loop-k-preserved
-loop-k-preserved c = ((omega arith), c.loop-k.invariant.1 ∙ rising_step _ _ _ _ c.loop-k-test.true (omega arith) (omega arith))
+pub loop-c-preserved : goal.loop-c-preserved
+loop-c-preserved c = c.loop-c.invariant ∙ rising_step _ _ _ _ c.loop-c-test.true (omega arith) (omega arith)
 
 pub returns : goal.returns
-returns c = sym (c.loop-k.invariant.1 ∙ rising_end c.args.n c.loop-k.last c.args.contexts.now c.loop-k.k (omega arith))
+returns c = sym (c.loop-c.invariant ∙ rising_end _ _ _ _ c.loop-c-test.false)

@@ -1,14 +1,12 @@
--- Each way out is one case of the definition.
-use mathlib.Core.Path.{sym}
-use Rattle.trees.specs.Names.{passes_any, passes_same, passes_other}
-use native.Mathlib.Omega.{arith}
+-- Name 0 passes whatever the entry's name is.
+use Rattle.std.proofs.Common.{sym, ap, ◌∙◌, ℕ}
+use borrow.Author.Tests.{eq-eqb, ne_eqb}
+use Rattle.trees.specs.Names.{passes, passes_any}
 use Rattle.marks.proofs.is_named.Goals as goal
 
 pub returns-then-test-eq0 : goal.returns-then-test-eq0
-returns-then-test-eq0 c = sym (passes_any _ _ (omega arith))
+returns-then-test-eq0 c = eq-eqb _ _ c.if-test-eq0.true ∙ sym (passes_any _ _ c.if-test-eq0.true)
 
-pub returns-then-test-name : goal.returns-then-test-name
-returns-then-test-name c = sym (passes_same _ _ (omega arith))
-
-pub returns-else-test-name : goal.returns-else-test-name
-returns-else-test-name c = sym (passes_other _ _ (omega arith) (omega arith))
+pub returns-else-test-eq0 : goal.returns-else-test-eq0
+unfolding passes
+returns-else-test-eq0 c = simp (ne_eqb _ _ c.if-test-eq0.false, c.name.ensures)

@@ -1,51 +1,48 @@
-use mathlib.Core.Path.{◌≡◌, refl, ap, ◌∙◌}
-use Prim.Native.Nat.{ℕ, ◌+◌}
-use lib.ListN.{length}
+use Rattle.std.proofs.Common.{refl, ap, ◌∙◌, sym, ℕ, Bool, true, false, ◌≡◌, ◌+◌, ◌<◌, arith, length, slice_set, List}
 use Rattle.xpath.specs.Select.{up_to}
-use Rattle.marks.specs.Marks.{marked}
-use Rattle.marks.proofs.Marking.{mark_yes, mark_no, count_yes, count_no, count_room, write_yes, write_no}
 use Rattle.xpath.specs.SelectLaws.{front, front_length}
-use native.Mathlib.Omega.{arith}
+use Rattle.marks.specs.Marks.{marked}
+use Rattle.marks.proofs.Marking.{count_yes, count_no, count_room, write_yes, write_no}
 use Rattle.marks.proofs.write_marks.Goals as goal
+use Rattle.marks.proofs.write_marks.Goals.{then-marks-j, else-marks-j}
 
 pub loop-j-init : goal.loop-j-init
 unfolding up_to
-loop-j-init c = ((omega arith), refl, refl)
-
-pub offset_bounds-room-at : goal.offset_bounds-room-at
-offset_bounds-room-at c = omega (arith, count_room (marked c.args.marks.now) c.loop-j.j c.args.n (mark_yes _ _ c.if-marks-i-eq1.true) (omega arith))
+loop-j-init c = (0, refl, refl, refl)
 
 pub bounds-room-at : goal.bounds-room-at
 bounds-room-at c =
-    let l = c.loop-j in
-    let a = c.args in
-    omega (arith, count_room (marked c.args.marks.now) c.loop-j.j c.args.n (mark_yes _ _ c.if-marks-i-eq1.true) (omega arith), ap length l.invariant.2, front_length (up_to l.j (marked a.marks.now)) a.room.now (omega (arith, count_room (marked c.args.marks.now) c.loop-j.j c.args.n (mark_yes _ _ c.if-marks-i-eq1.true) (omega arith))))
-
-pub overflow_add-at : goal.overflow_add-at
-overflow_add-at c = omega (arith, count_room (marked c.args.marks.now) c.loop-j.j c.args.n (mark_yes _ _ c.if-marks-i-eq1.true) (omega arith))
-
-pub loop-j-preserved-then-marks-i-eq1 : goal.loop-j-preserved-then-marks-i-eq1
-loop-j-preserved-then-marks-i-eq1 c =
-    let l = c.loop-j in
-    let a = c.args in
-    let h = mark_yes a.marks.now (l.j + 1) c.if-marks-i-eq1.true in
-    ((omega arith), count_yes (marked a.marks.now) _ _ h l.invariant.1, write_yes (marked a.marks.now) _ _ _ _ h l.invariant.1 (omega (arith, count_room (marked c.args.marks.now) c.loop-j.j c.args.n (mark_yes _ _ c.if-marks-i-eq1.true) (omega arith))) l.invariant.2)
+    let P = marked c.args.marks.now in
+    let (i, at, count, written) = c.loop-j.invariant in
+    let h : P (i + 1) ≡ true = sym (ap P at) ∙ c.if-marks-j.true in
+    omega (arith, count_room P i c.args.n h (omega (arith, at)), count, c.requires.1, c.loop-j.auto.room)
 
 pub loop-j-preserved : goal.loop-j-preserved
 loop-j-preserved c =
-    let l = c.loop-j in
-    let a = c.args in
-    let h = mark_no a.marks.now (l.j + 1) c.if-marks-i-eq1.false in
-    ((omega arith), count_no (marked a.marks.now) _ _ h l.invariant.1, write_no (marked a.marks.now) _ _ _ h l.invariant.2)
-
-pub shape_of-room : goal.shape_of-room
-shape_of-room c =
-    let l = c.loop-j in
-    let a = c.args in
-    ap length l.invariant.2 ∙ front_length (up_to l.j (marked a.marks.now)) a.room.now (omega (arith, ap (λ (x : ℕ). length (up_to x (marked a.marks.now))) (let z : l.j ≡ a.n = omega arith in z)))
+    let P = marked c.args.marks.now in
+    let (i, at, count, written) = c.loop-j.invariant in
+    elim c.if-marks-j.branch [
+      then-marks-j w ↦
+      let h : P (i + 1) ≡ true = sym (ap P at) ∙ w.if-marks-j.true in
+      let fits : length (up_to i P) < length c.args.room.now = omega (arith, count_room P i c.args.n h (omega (arith, at)), c.requires.1) in
+      (
+        c.loop-j.j,
+        refl,
+        w.at-is ∙ count_yes P i _ h count ∙ ap (λ (x : ℕ). length (up_to x P)) (sym at),
+        w.room-is ∙ ap (slice_set c.loop-j.room c.loop-j.at) at ∙ write_yes P i _ _ _ h count fits written
+        ∙ ap (λ (x : ℕ). front (up_to x P) c.args.room.now) (sym at),
+      )
+      | else-marks-j w ↦
+      let h : P (i + 1) ≡ false = sym (ap P at) ∙ w.if-marks-j.false in
+      (
+        c.loop-j.j,
+        refl,
+        w.at-is ∙ count_no P i _ h count ∙ ap (λ (x : ℕ). length (up_to x P)) (sym at),
+        w.room-is ∙ write_no P i _ _ h written ∙ ap (λ (x : ℕ). front (up_to x P) c.args.room.now) (sym at),
+      )
+    ]
 
 pub returns : goal.returns
 returns c =
-    let l = c.loop-j in
-    let a = c.args in
-    l.invariant.2 ∙ ap (λ (x : ℕ). front (up_to x (marked a.marks.now)) a.room.now) (omega arith)
+    let (i, at, count, written) = c.loop-j.invariant in
+    written ∙ ap (λ (x : ℕ). front (up_to x (marked c.args.marks.now)) c.args.room.now) (omega (arith, at))

@@ -38,7 +38,7 @@ loop-preserved c =
     let a = c.args in
     let l = c.loop in
     elim c.if-is_ending.branch [
-      then-is_ending w ↦ record {
+      | then-is_ending w ↦ record {
         writes = rw (w.room-is, w.at-is, w.opened-is, w.top-is)
             (emit_closed a.sig.now a.room.now a.count _ _ (2 * a.count - (l.counter + 1)) _ _ _ l.invariant.writes (omega arith) _ _
             (sym c.is_ending.ensures ∙ w.if-is_ending.true) w.parent-top.ensures w.put_close.ensures);

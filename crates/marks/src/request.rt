@@ -1,0 +1,35 @@
+// An axis call whose signature was accepted and whose arguments were judged.
+ghost use Rattle.std.specs.Prelude.{◌≡◌, true, MatchResult};
+ghost use Rattle.xpath.specs.Select.{within};
+
+use crate::{Axis, fine_axis};
+use blocks::Accepted;
+use terms::Refusal;
+
+// What an axis call asks, apart from the position: the contexts are ranks of the tree.
+#[derive(Clone, Copy)]
+pub struct Request<'a> {
+    pub tree: Accepted<'a>,
+    pub contexts: &'a [u16],
+    pub axis: Axis,
+    pub name: u16,
+    pub ghost ranks: { within tree.n contexts.now ≡ true },
+}
+
+impl<'a> Request<'a> {
+    ghost use Rattle.marks.specs.Axis.{axis_number, Judged, Refuses};
+
+    // The request, where neither the whole check nor an argument refuses the call.
+    pub fn judge(sig: &'a [u16], contexts: &'a [u16], axis: u16, name: u16) -> Result<Request<'a>, Refusal>
+        ensures { MatchResult result (λ request. Judged sig.now contexts.now axis name request.tree.sig.now request.contexts.now (axis_number request.axis) request.name) (λ refused. Refuses sig.now contexts.now axis name refused.number refused.entry.0) }
+    {
+        let tree = Accepted::check(sig)?;
+        let axis = fine_axis(tree.n, contexts, axis)?;
+        Ok(Request {
+            tree,
+            contexts,
+            axis,
+            name,
+        })
+    }
+}
