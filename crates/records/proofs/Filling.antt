@@ -10,8 +10,7 @@ use native.Mathlib.Nat.{not-suc-le-zero}
 use lib.ListN.{length, get_or}
 use lib.Seq.{sets}
 use lib.Dec.{eqb}
-use mathlib.Core.Bool.{Bool, true, false, ◌||◌}
-use borrow.Author.Tests.{eq-eqb, ne_eqb}
+use mathlib.Core.Bool.{Bool, ◌||◌}
 use Rattle.std.specs.List.{list_any, range_with_len}
 use Rattle.bytes_read.proofs.Rooms.{Storing, storing_more}
 use Rattle.bytes_read.specs.Bytes.{number_at}

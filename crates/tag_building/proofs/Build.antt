@@ -6,13 +6,12 @@
 --   Built, built_…        a loop that builds
 use Prim.Native.Nat.{ℕ, suc, ◌+◌, ◌-◌, ◌*◌, ◌≤◌, ◌<◌}
 use mathlib.Core.Path.{◌≡◌, refl, ap, ◌∙◌, sym}
-use mathlib.Core.Bool.{Bool, true, false, ◌||◌}
+use mathlib.Core.Bool.{Bool, true, false}
 use mathlib.Core.List.{List, [], ◌∷◌, ◌++◌, append_assoc, append-nil}
 use native.Mathlib.Omega.{arith}
 use lib.ListN.{length, get_or, drop, set, length-append, length-drop}
 use lib.Seq.{sets, length-sets, set_at, get_or_at, drop-drop}
-use lib.Dec.{ltb, eqb}
-use borrow.Author.Tests.{ne_eqb, eqb-false, le-ltb, ltb-false}
+use borrow.Author.Tests.{ne_eqb, le-ltb}
 use Rattle.turns.specs.Pick.{pick}
 use Rattle.trees.specs.Tree.{Forest, none, elem, size, Tree, whole}
 use Rattle.trees.specs.Signature.{row_signature, signature}

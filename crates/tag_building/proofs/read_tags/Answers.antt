@@ -1,5 +1,4 @@
 -- The pass over the tags says which of the two cases it is: refused, or built, and then given where the room is long enough.
-use Prim.Native.Nat.{◌*◌}
 use mathlib.Core.Path.{ap, sym, ◌∙◌}
 use native.Mathlib.Omega.{arith}
 use Rattle.terms.proofs.Lengths.{most_small}
