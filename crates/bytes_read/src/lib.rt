@@ -1,7 +1,7 @@
 // Layer 3, bytes_read: what the calls on records and tag lists share, that is marks and numbers in bytes.
 #![tactic(auto)]
 
-ghost use Rattle.std.specs.Prelude.{◌≡◌, ◌+◌, get_or};
+ghost use Rattle.std.specs.Prelude.{◌≡◌, ◌+◌, get_or, slice_index};
 ghost use Rattle.bytes_read.specs.Bytes.{number_at, marked};
 
 // The byte at a place, 0 outside.
@@ -25,10 +25,10 @@ pub fn number_at(bytes: &[u8], at: usize) -> u16
     u16::from_le_bytes([byte_at(bytes, at), byte_after(bytes, at)])
 }
 
-// Whether a place has the mark of these two bytes.
+// Whether a place has this mark.
 #[tactic(auto, unfolding(crate::specs::Bytes::marked))]
-pub fn is_marked(bytes: &[u8], at: usize, first: u8, second: u8) -> bool
-    ensures { result ≡ marked bytes.now at first second }
+pub fn is_marked(bytes: &[u8], at: usize, mark: &[u8; 2]) -> bool
+    ensures { result ≡ marked bytes.now at (slice_index mark.now 0) (slice_index mark.now 1) }
 {
-    byte_at(bytes, at) == first && byte_after(bytes, at) == second
+    byte_at(bytes, at) == mark[0] && byte_after(bytes, at) == mark[1]
 }

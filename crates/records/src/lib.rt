@@ -20,7 +20,7 @@ fn test_record(bytes: &[u8], count: u16) -> Result<(), Fault>
     let left = bytes.len() - at;
     if left < 2 {
         Err(Fault::Cut)
-    } else if !bytes_read::is_marked(bytes, at, b'S', b'E') {
+    } else if !bytes_read::is_marked(bytes, at, b"SE") {
         Err(Fault::UnknownMark)
     } else if left < 10 {
         Err(Fault::Cut)

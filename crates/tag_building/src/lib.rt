@@ -64,7 +64,7 @@ fn build_tree(limits: Limits, bytes: &[u8], whole: bool, from: usize, own: &mut 
         if verdict.is_err() {
             return Judged { at, count, verdict };
         }
-        if is_marked(bytes, at, b'O', b'P') {
+        if is_marked(bytes, at, b"OP") {
             open_entry(own, count, number_at(bytes, at + 2), top);
             top = count + 1;
             cursor = Cursor {

@@ -58,9 +58,9 @@ impl Cursor {
             Err(Fault::BadNesting)
         } else if left < 2 {
             Err(Fault::Cut)
-        } else if bytes_read::is_marked(bytes, self.at, b'O', b'P') {
+        } else if bytes_read::is_marked(bytes, self.at, b"OP") {
             self.test_open(bytes, limits)
-        } else if !bytes_read::is_marked(bytes, self.at, b'C', b'L') {
+        } else if !bytes_read::is_marked(bytes, self.at, b"CL") {
             Err(Fault::UnknownMark)
         } else if self.depth == 0 {
             Err(Fault::BadNesting)

@@ -1,14 +1,8 @@
 -- What is left of the records is stored behind what was; at the end all of them stand at the front of the room.
-use mathlib.Core.Path.{ap}
-use native.Mathlib.Nat.{sub-zero}
-use Rattle.records.specs.Records.{bytes_from}
 use Rattle.records.proofs.Filling.{bytes_stored, bytes_none, bytes_length}
-use Rattle.bytes_read.proofs.Rooms.{storing_start, storing_end}
+use Rattle.bytes_read.proofs.Rooms.{storing_end}
 use native.Mathlib.Omega.{arith}
 use Rattle.record_writing.proofs.fill_records.Goals as goal
-
-pub loop-i-init : goal.loop-i-init
-loop-i-init c = storing_start _ _ _ (ap (bytes_from _ 0) (sub-zero _))
 
 pub loop-i-preserved : goal.loop-i-preserved
 loop-i-preserved c = bytes_stored _ _ _ _ _ _ c.loop-i.invariant (omega arith) c.put_record.ensures

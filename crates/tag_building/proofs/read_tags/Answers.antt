@@ -22,4 +22,4 @@ pub returns : goal.returns
 returns c =
     let g = c.give_front-verdict.ensures in
     filled_given _ c.args.kind _ _ _ _ _ (ap (λ (x : Limits). x.any_name) c.from-limits.ensures) (ap (λ (x : Limits). x.most) c.from-limits.ensures)
-    _ _ _ _ _ c.build_tree-built.ensures (faultless _ (sym c.is_err.ensures.value ∙ c.if-is_err.false)) _ c.from.ensures _ _ g.0 g.1
+    _ _ _ _ _ c.build_tree-built.ensures (faultless _ (sym c.is_err.ensures.value ∙ c.if-is_err.false)) _ (omega arith) _ _ g.0 g.1

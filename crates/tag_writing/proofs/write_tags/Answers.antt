@@ -2,22 +2,13 @@
 use mathlib.Core.Path.{ap, sym, ◌∙◌}
 use mathlib.Core.List.{List}
 use Prim.Native.Nat.{ℕ, ◌*◌, ◌-◌, ◌+◌}
-use native.Mathlib.Nat.{sub-zero}
 use lib.ListN.{length}
 use native.Mathlib.Omega.{arith}
 use Rattle.terms.specs.Room.{front_with}
-use Rattle.bytes_read.proofs.Rooms.{storing_start, storing_end}
-use Rattle.tag_scan.specs.TagLists.{tag_bytes}
-use Rattle.tag_writing.proofs.Emit.{emit_tags, emit_closed, emit_opened, closed_fits, opened_fits, emit_bytes, emit_none, back_length}
+use Rattle.bytes_read.proofs.Rooms.{storing_end}
+use Rattle.tag_writing.proofs.Emit.{emit_closed, emit_opened, closed_fits, opened_fits, emit_bytes, emit_none, back_length}
 use Rattle.tag_writing.proofs.write_tags.Goals.{then-is_ending, else-is_ending}
 use Rattle.tag_writing.proofs.write_tags.Goals as goal
-
-pub loop-init : goal.loop-init
-loop-init c = record {
-  writes = storing_start _ _ _ (ap (λ (k : ℕ). tag_bytes (emit_tags c.args.sig.now k 1 0)) (sub-zero _));
-  few = omega arith;
-  near = omega arith;
-}
 
 pub put_close-requires : goal.put_close-requires
 put_close-requires c =
