@@ -1,5 +1,5 @@
 // A signature that the whole check accepted.
-ghost use Rattle.std.specs.Prelude.{◌≡◌, MatchResult, Ok, Err};
+ghost use Rattle.std.specs.Prelude.{◌≡◌, ◌≤◌, MatchResult, Ok, Err};
 ghost use Rattle.terms.specs.declared.Kind.{Kind};
 ghost use Rattle.checking.specs.Whole.{WholePromise};
 ghost use Rattle.trees.specs.Signature.{entries};
@@ -14,6 +14,7 @@ pub struct Accepted<'a> {
     pub n: u16,
     pub ghost accepted: { WholePromise Kind.Data sig.now (Ok tt) },
     pub ghost counted: { n ≡ entries sig.now },
+    pub ghost small: { n ≤ 4096 },
 }
 
 impl<'a> Accepted<'a> {

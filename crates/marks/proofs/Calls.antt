@@ -2,7 +2,7 @@
 --   axis_small        no number of an axis is over 10
 --   fine_…            which arguments are not refused
 --   within_…, room_…  which case of an answer holds
---   judged_left, refused_so   what is left where the arguments are fine, and where one is refused
+--   judged_left, refused_so, judged_leaves   what is left where the arguments are fine, and where one is refused
 --   leaves_as, refused_leaves   what an equal answer leaves; what a refusal leaves
 --   short_leaves, fits_leaves   what is left where the marked ranks are too many for the room, and where they fit
 use Rattle.std.specs.Prelude.{Ok, Err}
@@ -14,7 +14,8 @@ use mathlib.Core.Bool.{Bool, true, false, ◌&&◌, false≢true}
 use lib.ListN.{length}
 use lib.Dec.{leb}
 use borrow.Author.Tests.{le-leb, lt-leb, leb-true}
-use Rattle.trees.specs.Signature.{entries}
+use Rattle.trees.specs.Signature.{entries, entries_of, width}
+use Rattle.xpath.specs.Axes.{answer_of}
 use Rattle.terms.specs.declared.Refusal.{Refusal}
 use Rattle.terms.specs.Stops.{worked, refused_as, Written}
 use Rattle.xpath.specs.Select.{rises, within}
@@ -27,7 +28,7 @@ use Rattle.terms.specs.declared.Fault.{Fault}
 use Rattle.terms.specs.Faults.{number_of, refusal_at}
 use Rattle.checking.specs.Whole.{WholePromise}
 use Rattle.blocks.proofs.Calls.{after_accepted}
-use Rattle.marks.specs.Axis.{axis_number, arguments_fine, axis_within, axis_answer, answer_in, Refuses}
+use Rattle.marks.specs.Axis.{axis_number, arguments_fine, axis_within, axis_answer, answer_in, Judged, Refuses}
 
 -- ---- arguments
 
@@ -117,6 +118,18 @@ leaves_as x y r after q h = rw q h
 
 pub refused_leaves : (room : List ℕ) (r : Refusal) (f : Fault) → r ≡ refusal_at f 0 → Leaves (refused_left room (number_of f) 0) (Err r) room
 refused_leaves room r f q = record { told = ap (λ (x : Refusal). refused_as x.number x.entry.0) q; left = refl }
+
+-- what is left where the arguments are fine
+pub judged_leaves : {s contexts : List ℕ} {axis name : ℕ} {s' contexts' : List ℕ} {axis' name' n : ℕ} → Judged s contexts axis name s' contexts' axis' name'
+    → n ≡ entries s' → (p : ℕ) (room : List ℕ) (r : Written) (after : List ℕ)
+    → Leaves (room_for room (answer_of axis' n (entries_of width s').fa (entries_of width s').name name' p contexts')) r after
+    → Leaves (axis_answer s contexts axis name p room) r after
+judged_leaves j counted p room r after =
+    leaves_as _ _ r after
+    (
+      j.left p room
+      ∙ sym (λ i. room_for room (answer_of (j.numbered i) ((counted ∙ ap entries j.signature) i) (entries_of width (j.signature i)).fa (entries_of width (j.signature i)).name (j.named i) p (j.ranks i)))
+    )
 
 -- ---- the ranks of a list written
 

@@ -3,8 +3,8 @@
 --   write_yes, write_no   one more rank written
 --   marks_none            no rank has a mark
 --   lesser_…, min_is      which number is the lesser
---   Over                  the marks of the ranks that are done
---   over_…                none, one more, all
+--   Done                  the marks where some of the ranks are done
+--   upward_…, downward_…  none, one more, all, from the first rank up and from the last one down
 use Prim.Native.Nat.{ℕ, ◌+◌, ◌-◌, ◌≤◌, ◌<◌, min}
 use mathlib.Core.Path.{◌≡◌, refl, ap, ◌∙◌, sym}
 use mathlib.Core.Logic.{⊎_elim}
@@ -16,11 +16,12 @@ use lib.ListN.{length, get_or, set, replicate, length-append, length-replicate, 
 use lib.Seq.{get_or-set_same, get_or-set_other}
 use lib.Dec.{ltb, leb, eqb}
 use mir.Val.{bool_byte}
+use Rattle.turns.specs.Pick.{pick}
 use Rattle.trees.specs.Order.{lt_or_ge}
 use borrow.Author.Tests.{eq-eqb, ne_eqb, lt-ltb, le-ltb, le-leb, lt-leb}
 use Rattle.xpath.specs.Select.{up_to}
 use Rattle.xpath.specs.SelectLaws.{up_yes, up_no, up_grows, front, front_store}
-use Rattle.marks.specs.Marks.{marked, Marks, Marked, lesser}
+use Rattle.marks.specs.Marks.{marked, Marks, lesser}
 
 -- ---- counting and writing the ranks that pass
 
@@ -51,79 +52,94 @@ module _ (P : ℕ → Bool) (j : ℕ) where
   pub write_no : (room room₀ : List ℕ) → P (j + 1) ≡ false → room ≡ front (up_to j P) room₀ → room ≡ front (up_to (j + 1) P) room₀
   write_no room room₀ h r = r ∙ ap (λ (x : List ℕ). front x room₀) (sym (up_no P j h))
 
--- ---- marking beside the marks that are there
+-- ---- marking rank after rank
 
--- of the ranks that are done, those that pass K are marked too
-abbrev pub Over : ℕ → (ℕ → Bool) → (ℕ → Bool) → List Bool → List Bool → Type 0
-Over n D K m₀ m = (i : ℕ) → 1 ≤ i → i ≤ n → marked m i ≡ (marked m₀ i || (D i && K i))
+-- of the ranks that are done, just those that pass F have a mark; the others are as they were
+abbrev pub Done : ℕ → (ℕ → Bool) → (ℕ → Bool) → List Bool → List Bool → Type 0
+Done n D F m₀ m = (i : ℕ) → 1 ≤ i → i ≤ n → marked m i ≡ pick (D i) (F i) (marked m₀ i)
 
-module _ (n : ℕ) (K : ℕ → Bool) (m₀ : List Bool) where
-  over_none : (D : ℕ → Bool) → ((i : ℕ) → 1 ≤ i → i ≤ n → D i ≡ false) → Over n D K m₀ m₀
-  over_none D h i l g = sym (ap (λ (b : Bool). marked m₀ i || (b && K i)) (h i l g) ∙ or-false (marked m₀ i))
+module _ (n : ℕ) (F : ℕ → Bool) (m₀ : List Bool) where
+  none_done : (D : ℕ → Bool) → ((i : ℕ) → 1 ≤ i → i ≤ n → D i ≡ false) → Done n D F m₀ m₀
+  none_done D h i l g = sym (ap (λ (b : Bool). pick b (F i) (marked m₀ i)) (h i l g))
 
   -- rank k is done next
-  module _ (D E : ℕ → Bool) (k : ℕ) (before : D k ≡ false) (now : E k ≡ true) (other : (i : ℕ) → (i ≡ k → ⊥) → D i ≡ E i) (m : List Bool) (p : Over n D K m₀ m) where
-    over_hit : K k ≡ true → k < length m → Over n E K m₀ (set m k true)
-    over_hit h w i l g = go (ℕ_discrete i k)
+  module _ (D E : ℕ → Bool) (k : ℕ) (before : D k ≡ false) (now : E k ≡ true) (other : (i : ℕ) → (i ≡ k → ⊥) → D i ≡ E i) (m : List Bool) (p : Done n D F m₀ m) where
+    next_done : (v : Bool) → v ≡ F k → k < length m → Done n E F m₀ (set m k v)
+    next_done v q w i l g = go (ℕ_discrete i k)
       where
-        go : Dec (i ≡ k) → marked (set m k true) i ≡ (marked m₀ i || (E i && K i))
+        go : Dec (i ≡ k) → marked (set m k v) i ≡ pick (E i) (F i) (marked m₀ i)
         go (yes e) =
-            ap (marked (set m k true)) e ∙ get_or-set_same m k true false w
-            ∙ sym (ap (λ (x : ℕ). marked m₀ i || (E x && K x)) e ∙ simp (now, h, or-true))
-        go (no ne) = get_or-set_other m k i true false ne ∙ p i l g ∙ ap (λ (b : Bool). marked m₀ i || (b && K i)) (other i ne)
+            ap (marked (set m k v)) e ∙ get_or-set_same m k v false w ∙ q
+            ∙ sym (ap (λ (x : ℕ). pick (E x) (F x) (marked m₀ x)) e ∙ ap (λ (b : Bool). pick b (F k) (marked m₀ k)) now)
+        go (no ne) = get_or-set_other m k i v false ne ∙ p i l g ∙ ap (λ (b : Bool). pick b (F i) (marked m₀ i)) (other i ne)
 
-    over_miss : K k ≡ false → Over n E K m₀ m
-    over_miss h i l g = go (ℕ_discrete i k)
-      where
-        go : Dec (i ≡ k) → marked m i ≡ (marked m₀ i || (E i && K i))
-        go (yes e) =
-            p i l g ∙ ap (λ (x : ℕ). marked m₀ i || (D x && K x)) e ∙ ap (λ (b : Bool). marked m₀ i || (b && K k)) before
-            ∙ sym (ap (λ (x : ℕ). marked m₀ i || (E x && K x)) e ∙ ap (λ (b : Bool). marked m₀ i || b) (simp (now, h)))
-        go (no ne) = p i l g ∙ ap (λ (b : Bool). marked m₀ i || (b && K i)) (other i ne)
+    not_done : 1 ≤ k → k ≤ n → marked m k ≡ marked m₀ k
+    not_done l g = p k l g ∙ ap (λ (b : Bool). pick b (F k) (marked m₀ k)) before
 
-  over_done : (D : ℕ → Bool) (m : List Bool) → ((i : ℕ) → 1 ≤ i → i ≤ n → D i ≡ true) → length m ≡ 4097 → Over n D K m₀ m → Marked n K m₀ m
-  over_done D m h w p = record {
+  all_done : (D : ℕ → Bool) (m : List Bool) → ((i : ℕ) → 1 ≤ i → i ≤ n → D i ≡ true) → length m ≡ 4097 → Done n D F m₀ m → Marks n F m
+  all_done D m h w p = record {
     long = w;
-    are = λ i l g. p i l g ∙ ap (λ (b : Bool). marked m₀ i || (b && K i)) (h i l g);
+    are = λ i l g. p i l g ∙ ap (λ (b : Bool). pick b (F i) (marked m₀ i)) (h i l g);
   }
 
   -- ---- upwards: the ranks before j are done
 
-  pub part_none : Over n (λ i. ltb i 1) K m₀ m₀
-  part_none = over_none (λ i. ltb i 1) (λ i l g. le-ltb i 1 l)
+  pub upward_none : Done n (λ i. ltb i 1) F m₀ m₀
+  upward_none = none_done (λ i. ltb i 1) (λ i l g. le-ltb i 1 l)
 
-  module _ (j : ℕ) (m : List Bool) (p : Over n (λ i. ltb i j) K m₀ m) where
-    part_other : (i : ℕ) → (i ≡ j → ⊥) → ltb i j ≡ ltb i (j + 1)
-    part_other i ne = ⊎_elim (λ (l : i < j). lt-ltb i j l ∙ sym (lt-ltb i (j + 1) (omega arith)))
+  module _ (j : ℕ) (m : List Bool) (p : Done n (λ i. ltb i j) F m₀ m) where
+    upward_other : (i : ℕ) → (i ≡ j → ⊥) → ltb i j ≡ ltb i (j + 1)
+    upward_other i ne = ⊎_elim (λ (l : i < j). lt-ltb i j l ∙ sym (lt-ltb i (j + 1) (omega arith)))
         (λ (g : j ≤ i). le-ltb i j g ∙ sym (le-ltb i (j + 1) (omega arith))) (lt_or_ge i j)
 
-    pub part_hit : K j ≡ true → j < length m → Over n (λ i. ltb i (j + 1)) K m₀ (set m j true)
-    part_hit = over_hit (λ i. ltb i j) (λ i. ltb i (j + 1)) j (le-ltb j j (omega arith)) (lt-ltb j (j + 1) (omega arith)) part_other m p
+    pub upward_next : (v : Bool) → v ≡ F j → j < length m → Done n (λ i. ltb i (j + 1)) F m₀ (set m j v)
+    upward_next = next_done (λ i. ltb i j) (λ i. ltb i (j + 1)) j (le-ltb j j (omega arith)) (lt-ltb j (j + 1) (omega arith)) upward_other m p
 
-    pub part_miss : K j ≡ false → Over n (λ i. ltb i (j + 1)) K m₀ m
-    part_miss = over_miss (λ i. ltb i j) (λ i. ltb i (j + 1)) j (le-ltb j j (omega arith)) (lt-ltb j (j + 1) (omega arith)) part_other m p
+    pub upward_old : 1 ≤ j → j ≤ n → marked m j ≡ marked m₀ j
+    upward_old = not_done (λ i. ltb i j) (λ i. ltb i (j + 1)) j (le-ltb j j (omega arith)) (lt-ltb j (j + 1) (omega arith)) upward_other m p
 
-  pub part_done : (j : ℕ) (m : List Bool) → n < j → length m ≡ 4097 → Over n (λ i. ltb i j) K m₀ m → Marked n K m₀ m
-  part_done j m h = over_done (λ i. ltb i j) m (λ i l g. lt-ltb i j (omega arith))
+  pub upward_done : (j : ℕ) (m : List Bool) → n < j → length m ≡ 4097 → Done n (λ i. ltb i j) F m₀ m → Marks n F m
+  upward_done j m h = all_done (λ i. ltb i j) m (λ i l g. lt-ltb i j (omega arith))
 
   -- ---- downwards: the ranks from j on are done
 
-  pub back_none : (j : ℕ) → n < j → Over n (λ i. leb j i) K m₀ m₀
-  back_none j h = over_none (λ i. leb j i) (λ i l g. lt-leb j i (omega arith))
+  pub downward_none : (j : ℕ) → n < j → Done n (λ i. leb j i) F m₀ m₀
+  downward_none j h = none_done (λ i. leb j i) (λ i l g. lt-leb j i (omega arith))
 
-  module _ (j : ℕ) (m : List Bool) (p : Over n (λ i. leb (j + 1) i) K m₀ m) where
-    back_other : (i : ℕ) → (i ≡ j → ⊥) → leb (j + 1) i ≡ leb j i
-    back_other i ne = ⊎_elim (λ (l : i < j). lt-leb (j + 1) i (omega arith) ∙ sym (lt-leb j i l))
-        (λ (g : j ≤ i). le-leb (j + 1) i (omega arith) ∙ sym (le-leb j i g)) (lt_or_ge i j)
+  -- the next is rank k, just before those that are done
+  module _ (j k : ℕ) (e : j ≡ k + 1) (m : List Bool) (p : Done n (λ i. leb j i) F m₀ m) where
+    downward_before : leb j k ≡ false
+    downward_before = lt-leb j k (omega (arith, e))
 
-    pub back_hit : K j ≡ true → j < length m → Over n (λ i. leb j i) K m₀ (set m j true)
-    back_hit = over_hit (λ i. leb (j + 1) i) (λ i. leb j i) j (lt-leb (j + 1) j (omega arith)) (le-leb j j (omega arith)) back_other m p
+    downward_other : (i : ℕ) → (i ≡ k → ⊥) → leb j i ≡ leb k i
+    downward_other i ne = ⊎_elim (λ (l : i < k). lt-leb j i (omega (arith, e)) ∙ sym (lt-leb k i l))
+        (λ (g : k ≤ i). le-leb j i (omega (arith, e)) ∙ sym (le-leb k i g)) (lt_or_ge i k)
 
-    pub back_miss : K j ≡ false → Over n (λ i. leb j i) K m₀ m
-    back_miss = over_miss (λ i. leb (j + 1) i) (λ i. leb j i) j (lt-leb (j + 1) j (omega arith)) (le-leb j j (omega arith)) back_other m p
+    pub downward_next : (v : Bool) → v ≡ F k → k < length m → Done n (λ i. leb k i) F m₀ (set m k v)
+    downward_next = next_done (λ i. leb j i) (λ i. leb k i) k downward_before (le-leb k k (omega arith)) downward_other m p
 
-  pub back_done : (j : ℕ) (m : List Bool) → j ≤ 1 → length m ≡ 4097 → Over n (λ i. leb j i) K m₀ m → Marked n K m₀ m
-  back_done j m h = over_done (λ i. leb j i) m (λ i l g. le-leb j i (omega arith))
+    pub downward_old : 1 ≤ k → k ≤ n → marked m k ≡ marked m₀ k
+    downward_old = not_done (λ i. leb j i) (λ i. leb k i) k downward_before (le-leb k k (omega arith)) downward_other m p
+
+  pub downward_done : (j : ℕ) (m : List Bool) → j ≤ 1 → length m ≡ 4097 → Done n (λ i. leb j i) F m₀ m → Marks n F m
+  downward_done j m h = all_done (λ i. leb j i) m (λ i l g. le-leb j i (omega arith))
+
+-- a mark put beside the one that is there
+module _ (n : ℕ) (K : ℕ → Bool) (m₀ : List Bool) where
+  abbrev Beside : (ℕ → Bool) → List Bool → Type 0
+  Beside D m = Done n D (λ i. marked m₀ i || K i) m₀ m
+
+  module _ (k : ℕ) (low : 1 ≤ k) (high : k ≤ n) (m : List Bool) (w : k < length m) (b : Bool) (q : b ≡ K k) where
+    beside : marked m k ≡ marked m₀ k → (marked m k || b) ≡ (marked m₀ k || K k)
+    beside e = ap (λ (x : Bool). x || b) e ∙ ap (λ (x : Bool). marked m₀ k || x) q
+
+    pub upward_beside : Beside (λ i. ltb i k) m → Beside (λ i. ltb i (k + 1)) (set m k (marked m k || b))
+    upward_beside p =
+        upward_next n (λ i. marked m₀ i || K i) m₀ k m p (marked m k || b) (beside (upward_old n (λ i. marked m₀ i || K i) m₀ k m p low high)) w
+
+    pub downward_beside : (j : ℕ) → j ≡ k + 1 → Beside (λ i. leb j i) m → Beside (λ i. leb k i) (set m k (marked m k || b))
+    downward_beside j e p =
+        downward_next n (λ i. marked m₀ i || K i) m₀ j k e m p (marked m k || b) (beside (downward_old n (λ i. marked m₀ i || K i) m₀ j k e m p low high)) w
 
 -- ---- no marks
 

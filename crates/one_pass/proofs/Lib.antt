@@ -1,4 +1,3 @@
 pub mod Contexts
 pub mod Passes
 pub mod Unions
-pub mod Numbered

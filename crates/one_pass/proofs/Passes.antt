@@ -1,195 +1,164 @@
 -- One more rank of a pass.
---   raise_…, lower_…, hand_…, parent_…                 the cases of the small functions
+--   raise_on, lower_on                                 the small functions where the mark is set
 --   raised_up, lowered_up, raised_down, lowered_down   the number that is carried along
---   below_…, following_…, above_…, preceding_…         what the number says of the rank
---   handed_up, handed_down, handed_length              the marks that are handed to parents
+--   below_is, following_is, above_is, preceding_is     what the number says of the rank
+--   handed_up, handed_down                             the marks that are handed to parents
 --   child_is, later_is, earlier_is, parents_are        what those say of the rank
-use Prim.Native.Nat.{ℕ, ◌+◌, ◌-◌, ◌≤◌, ◌<◌}
-use mathlib.Core.Path.{◌≡◌, refl, ap, ◌∙◌, sym, subst}
-use mathlib.Core.List.{List}
-use mathlib.Core.Bool.{Bool, true, false, not, ◌&&◌}
-use native.Mathlib.Omega.{arith}
-use lib.ListN.{length, get_or, set, length-set}
+--   Upward, Downward                                   the marks of a pass, where the ranks before j, or from j on, are done
+use Rattle.std.proofs.Common.{ℕ, ◌+◌, ◌-◌, ◌≤◌, ◌<◌, ◌≡◌, refl, ap, ◌∙◌, sym, subst, List, Bool, true, false, ◌&&◌, ◌||◌, arith, length, get_or, max, min, ltb, leb, eqb}
+use Rattle.std.specs.Prelude.{not}
+use Rattle.std.proofs.Math.Logic.{⊎_elim}
+use Rattle.std.proofs.Math.Bool.{or-true, or-false}
+use Rattle.std.proofs.Math.Decide.{ℕ_discrete}
+use Rattle.std.proofs.lemmas.List.{length-set}
+use lib.ListN.{set}
 use lib.Seq.{get_or-set_same, get_or-set_other}
-use lib.Dec.{eqb}
-use borrow.Author.Tests.{lt-ltb, le-ltb, eq-eqb, ne_eqb}
-use native.Mathlib.Decide.{ℕ_discrete}
+use borrow.Author.Tests.{lt-ltb, le-ltb, le-leb, lt-leb}
 use Rattle.turns.specs.Pick.{pick}
+use Rattle.trees.specs.Order.{lt_or_ge}
 use Rattle.trees.specs.Signature.{entries_of, width}
 use Rattle.xpath.specs.Spread.{spread_of, Seen, More, more_up, more_down, Greatest, Least, raised_to, lowered_to, raised_greatest, lowered_least, spread_descendant, spread_following, spread_ancestor, spread_preceding, spread_child}
 use Rattle.xpath.proofs.SpreadKids.{Kids, kids_hit, kids_miss, spread_parent, spread_later, spread_earlier}
 use Rattle.blocks.specs.Checked.{Ready}
 use Rattle.marks.specs.Marks.{marked, Marks}
+use Rattle.marks.proofs.Marking.{Done}
+use Rattle.one_pass.specs.Reached.{reached}
 
 -- ---- the small functions
 
-module _ (mark x y : ℕ) where
-  pub raise_yes : mark ≡ 1 → x < y → y ≡ raised_to (eqb mark 1) x y
+module _ (x y : ℕ) where
+  pub raise_on : max x y ≡ raised_to true x y
   unfolding raised_to
-  raise_yes e l = sym (simp (eq-eqb mark 1 e, lt-ltb x y l))
+  raise_on = ⊎_elim (λ (l : x < y). rw (lt-ltb x y l) (omega arith)) (λ (g : y ≤ x). rw (le-ltb x y g) (omega arith)) (lt_or_ge x y)
 
-  pub raise_no : (mark ≡ 1 → y ≤ x) → x ≡ raised_to (eqb mark 1) x y
-  unfolding raised_to
-  raise_no h = go (ℕ_discrete mark 1)
-    where
-      go : Dec (mark ≡ 1) → x ≡ raised_to (eqb mark 1) x y
-      go (yes e) = sym (simp (eq-eqb mark 1 e, le-ltb x y (h e)))
-      go (no e) = sym (simp (ne_eqb mark 1 e))
-
-  pub lower_yes : mark ≡ 1 → y < x → y ≡ lowered_to (eqb mark 1) x y
+  pub lower_on : min x y ≡ lowered_to true x y
   unfolding lowered_to
-  lower_yes e l = sym (simp (eq-eqb mark 1 e, lt-ltb y x l))
-
-  pub lower_no : (mark ≡ 1 → x ≤ y) → x ≡ lowered_to (eqb mark 1) x y
-  unfolding lowered_to
-  lower_no h = go (ℕ_discrete mark 1)
-    where
-      go : Dec (mark ≡ 1) → x ≡ lowered_to (eqb mark 1) x y
-      go (yes e) = sym (simp (eq-eqb mark 1 e, le-ltb y x (h e)))
-      go (no e) = sym (simp (ne_eqb mark 1 e))
-
-module _ (m : List ℕ) (up : ℕ) where
-  pub hand_yes : (mark : ℕ) → mark ≡ 1 → set m up 1 ≡ pick (eqb mark 1) (set m up 1) m
-  hand_yes mark e = sym (simp (eq-eqb mark 1 e))
-
-  pub hand_no : (mark : ℕ) → (mark ≡ 1 → ⊥) → m ≡ pick (eqb mark 1) (set m up 1) m
-  hand_no mark e = sym (simp (ne_eqb mark 1 e))
-
-  pub parent_none : up ≡ 0 → false ≡ (not (eqb up 0) && marked m up)
-  parent_none e = sym (simp (eq-eqb up 0 e))
-
-  pub parent_marked : (up ≡ 0 → ⊥) → get_or m up 0 ≡ 1 → true ≡ (not (eqb up 0) && marked m up)
-  unfolding marked
-  parent_marked ne e = sym (simp (ne_eqb up 0 ne, eq-eqb (get_or m up 0) 1 e))
-
-  pub parent_other : (up ≡ 0 → ⊥) → (get_or m up 0 ≡ 1 → ⊥) → false ≡ (not (eqb up 0) && marked m up)
-  unfolding marked
-  parent_other ne e = sym (simp (ne_eqb up 0 ne, ne_eqb (get_or m up 0) 1 e))
+  lower_on = ⊎_elim (λ (l : y < x). rw (lt-ltb y x l) (omega arith)) (λ (g : x ≤ y). rw (le-ltb y x g) (omega arith)) (lt_or_ge y x)
 
 -- ---- the number that is carried along
 
-module _ (from : List ℕ) (k x r y : ℕ) where
+module _ (from : List Bool) (k x r y : ℕ) where
   module _ (v : ℕ → ℕ) (l : 1 ≤ k) (p : y ≡ v k) where
-    pub raised_up : r ≡ raised_to (eqb (get_or from k 0) 1) x y → Greatest (Seen (marked from) 1 k) v x → Greatest (Seen (marked from) 1 (k + 1)) v r
-    unfolding marked
+    pub raised_up : r ≡ raised_to (marked from k) x y → Greatest (Seen (marked from) 1 k) v x → Greatest (Seen (marked from) 1 (k + 1)) v r
     raised_up q g =
-        subst (Greatest (Seen (marked from) 1 (k + 1)) v) (sym (q ∙ ap (raised_to (eqb (get_or from k 0) 1) x) p)) (raised_greatest (more_up (marked from) k l) v x g)
+        subst (Greatest (Seen (marked from) 1 (k + 1)) v) (sym (q ∙ ap (raised_to (marked from k) x) p)) (raised_greatest (more_up (marked from) k l) v x g)
 
-    pub lowered_up : r ≡ lowered_to (eqb (get_or from k 0) 1) x y → Least (Seen (marked from) 1 k) v x → Least (Seen (marked from) 1 (k + 1)) v r
-    unfolding marked
+    pub lowered_up : r ≡ lowered_to (marked from k) x y → Least (Seen (marked from) 1 k) v x → Least (Seen (marked from) 1 (k + 1)) v r
     lowered_up q g =
-        subst (Least (Seen (marked from) 1 (k + 1)) v) (sym (q ∙ ap (lowered_to (eqb (get_or from k 0) 1) x) p)) (lowered_least (more_up (marked from) k l) v x g)
+        subst (Least (Seen (marked from) 1 (k + 1)) v) (sym (q ∙ ap (lowered_to (marked from k) x) p)) (lowered_least (more_up (marked from) k l) v x g)
 
-  module _ (n : ℕ) (l : 1 ≤ k) (h : k ≤ n) where
-    back : k ≡ k - 1 + 1
-    back = omega arith
-
-    pub raised_down : r ≡ raised_to (eqb (get_or from k 0) 1) x k → Greatest (Seen (marked from) (k + 1) (n + 1)) (λ c. c) x
-        → Greatest (Seen (marked from) (k - 1 + 1) (n + 1)) (λ c. c) r
-    unfolding marked
+  module _ (n j : ℕ) (e : j ≡ k + 1) (h : k ≤ n) where
+    pub raised_down : r ≡ raised_to (marked from k) x k → Greatest (Seen (marked from) j (n + 1)) (λ c. c) x → Greatest (Seen (marked from) k (n + 1)) (λ c. c) r
     raised_down q g =
-        subst (λ (i : ℕ). Greatest (Seen (marked from) i (n + 1)) (λ c. c) r) back
-        (subst (Greatest (Seen (marked from) k (n + 1)) (λ c. c)) (sym q) (raised_greatest (more_down (marked from) k n h) (λ c. c) x g))
+        subst (Greatest (Seen (marked from) k (n + 1)) (λ c. c)) (sym q)
+        (raised_greatest (more_down (marked from) k n h) (λ c. c) x (subst (λ (i : ℕ). Greatest (Seen (marked from) i (n + 1)) (λ c. c) x) e g))
 
-    pub lowered_down : r ≡ lowered_to (eqb (get_or from k 0) 1) x k → Least (Seen (marked from) (k + 1) (n + 1)) (λ c. c) x
-        → Least (Seen (marked from) (k - 1 + 1) (n + 1)) (λ c. c) r
-    unfolding marked
+    pub lowered_down : r ≡ lowered_to (marked from k) x k → Least (Seen (marked from) j (n + 1)) (λ c. c) x → Least (Seen (marked from) k (n + 1)) (λ c. c) r
     lowered_down q g =
-        subst (λ (i : ℕ). Least (Seen (marked from) i (n + 1)) (λ c. c) r) back
-        (subst (Least (Seen (marked from) k (n + 1)) (λ c. c)) (sym q) (lowered_least (more_down (marked from) k n h) (λ c. c) x g))
+        subst (Least (Seen (marked from) k (n + 1)) (λ c. c)) (sym q)
+        (lowered_least (more_down (marked from) k n h) (λ c. c) x (subst (λ (i : ℕ). Least (Seen (marked from) i (n + 1)) (λ c. c) x) e g))
 
 -- ---- what is carried says which ranks are on the axis
 
--- what a pass of an axis marks
-abbrev pub spreads : ℕ → List ℕ → ℕ → List ℕ → ℕ → Bool
-spreads axis s n from = spread_of axis n (entries_of width s).fa (marked from)
+at_most : (a b : ℕ) → leb a b ≡ ltb a (b + 1)
+at_most a b = ⊎_elim (λ (l : a < b + 1). le-leb a b (omega arith) ∙ sym (lt-ltb a (b + 1) l)) (λ (g : b + 1 ≤ a). lt-leb a b (omega arith) ∙ sym (le-ltb a (b + 1) g)) (lt_or_ge a (b + 1))
 
-module _ (s : List ℕ) (n : ℕ) (f : Ready s n) (from : List ℕ) (j : ℕ) (l : 1 ≤ j) (h : j ≤ n) (x : ℕ) where
-  module _ (g : Greatest (Seen (marked from) 1 j) (entries_of width s).ff x) where
-    pub below_yes : j < x → spreads 2 s n from j ≡ true
-    below_yes w = sym (spread_descendant n (entries_of width s) f.facts f.small (marked from) j l h x g) ∙ lt-ltb j x w
+module _ (s : List ℕ) (n : ℕ) (f : Ready s n) (from : List Bool) (j : ℕ) (l : 1 ≤ j) (h : j ≤ n) (x : ℕ) where
+  pub below_is : Greatest (Seen (marked from) 1 j) (entries_of width s).ff x → ltb j x ≡ reached 2 s n from j
+  below_is = spread_descendant n (entries_of width s) f.facts f.small (marked from) j l h x
 
-    pub below_no : x ≤ j → spreads 2 s n from j ≡ false
-    below_no w = sym (spread_descendant n (entries_of width s) f.facts f.small (marked from) j l h x g) ∙ le-ltb j x w
+  pub following_is : Least (Seen (marked from) 1 j) (entries_of width s).ff x → leb x j ≡ reached 7 s n from j
+  following_is g = at_most x j ∙ spread_following n (entries_of width s) f.facts f.small (marked from) j l h x g
 
-  module _ (g : Least (Seen (marked from) 1 j) (entries_of width s).ff x) where
-    pub following_yes : x ≤ j → spreads 7 s n from j ≡ true
-    following_yes w = sym (spread_following n (entries_of width s) f.facts f.small (marked from) j l h x g) ∙ lt-ltb x (j + 1) (omega arith)
+  module _ (after : ℕ) (e : after ≡ j + 1) (past : ℕ) (p : past ≡ (entries_of width s).ff j) where
+    pub above_is : Least (Seen (marked from) after (n + 1)) (λ c. c) x → ltb x past ≡ reached 5 s n from j
+    above_is g =
+        ap (ltb x) p
+        ∙ spread_ancestor n (entries_of width s) f.facts f.small (marked from) j l h x (subst (λ (i : ℕ). Least (Seen (marked from) i (n + 1)) (λ c. c) x) e g)
 
-    pub following_no : j < x → spreads 7 s n from j ≡ false
-    following_no w = sym (spread_following n (entries_of width s) f.facts f.small (marked from) j l h x g) ∙ le-ltb x (j + 1) (omega arith)
-
-  module _ (past : ℕ) (p : past ≡ (entries_of width s).ff j) where
-    module _ (g : Least (Seen (marked from) (j + 1) (n + 1)) (λ c. c) x) where
-      pub above_yes : x < past → spreads 5 s n from j ≡ true
-      above_yes w = sym (spread_ancestor n (entries_of width s) f.facts f.small (marked from) j l h x g) ∙ lt-ltb x _ (omega arith)
-
-      pub above_no : past ≤ x → spreads 5 s n from j ≡ false
-      above_no w = sym (spread_ancestor n (entries_of width s) f.facts f.small (marked from) j l h x g) ∙ le-ltb x _ (omega arith)
-
-    module _ (g : Greatest (Seen (marked from) (j + 1) (n + 1)) (λ c. c) x) where
-      pub preceding_yes : past ≤ x → spreads 8 s n from j ≡ true
-      preceding_yes w = sym (spread_preceding n (entries_of width s) f.facts f.small (marked from) j l h x g) ∙ lt-ltb _ (x + 1) (omega arith)
-
-      pub preceding_no : x < past → spreads 8 s n from j ≡ false
-      preceding_no w = sym (spread_preceding n (entries_of width s) f.facts f.small (marked from) j l h x g) ∙ le-ltb _ (x + 1) (omega arith)
+    pub preceding_is : Greatest (Seen (marked from) after (n + 1)) (λ c. c) x → leb past x ≡ reached 8 s n from j
+    preceding_is g =
+        ap (λ (y : ℕ). leb y x) p ∙ at_most ((entries_of width s).ff j) x
+        ∙ spread_preceding n (entries_of width s) f.facts f.small (marked from) j l h x (subst (λ (i : ℕ). Greatest (Seen (marked from) i (n + 1)) (λ c. c) x) e g)
 
 -- ---- marks that are handed to parents
 
-module _ (from seen after : List ℕ) (k up : ℕ) (q : after ≡ pick (eqb (get_or from k 0) 1) (set seen up 1) seen) where
-  pub handed_length : length after ≡ length seen
-  handed_length = ap length q ∙ go (eqb (get_or from k 0) 1)
+-- the same marks
+kids_as : {S : ℕ → Type 0} (fa : ℕ → ℕ) (n : ℕ) (B C : ℕ → Bool) → ((p : ℕ) → C p ≡ B p) → Kids S fa n B → Kids S fa n C
+kids_as fa n B C e h = record {
+  yes = λ c s a b. e (fa c) ∙ h.yes c s a b;
+  no = λ p a b q. h.no p a b (sym (e p) ∙ q);
+}
+
+module _ (from seen : List Bool) (k up : ℕ) (fa : ℕ → ℕ) (n : ℕ) (p : up ≡ fa k) (w : up < length seen) where
+  -- the mark of k, put beside the one that its parent has
+  abbrev handed_on : List Bool
+  handed_on = set seen up (marked seen up || marked from k)
+
+  handed : {S T : ℕ → Type 0} → More S T (marked from) k → Kids S fa n (marked seen) → Kids T fa n (marked handed_on)
+  handed {S} {T} m h = go (marked from k) refl
     where
-      go : (b : Bool) → length (pick b (set seen up 1) seen) ≡ length seen
-      go true = simp length-set
-      go false = refl
+      own : (i : ℕ) → i ≡ up → marked handed_on i ≡ (marked seen up || marked from k)
+      own i e = ap (marked handed_on) e ∙ get_or-set_same seen up (marked seen up || marked from k) false w
 
-  module _ (fa : ℕ → ℕ) (n : ℕ) (p : up ≡ fa k) (w : up < length seen) where
-    handed : {S T : ℕ → Type 0} → More S T (marked from) k → Kids S fa n (marked seen) → Kids T fa n (marked after)
-    unfolding marked
-    handed {S} {T} m h = subst (λ (z : List ℕ). Kids T fa n (marked z)) (sym q) (go (eqb (get_or from k 0) 1) refl)
-      where
-        own : marked (set seen up 1) (fa k) ≡ true
-        own = ap (marked (set seen up 1)) (sym p) ∙ eq-eqb _ _ (get_or-set_same seen up 1 0 w)
+      other : (i : ℕ) → (i ≡ up → ⊥) → marked handed_on i ≡ marked seen i
+      other i ne = get_or-set_other seen up i (marked seen up || marked from k) false ne
 
-        go : (b : Bool) → eqb (get_or from k 0) 1 ≡ b → Kids T fa n (marked (pick b (set seen up 1) seen))
-        go true e =
-            kids_hit m fa n (marked seen) h e (marked (set seen up 1)) (λ u. own)
-            (λ i ne. ap (λ (z : ℕ). eqb z 1) (get_or-set_other seen up i 1 0 (λ z. ne (z ∙ p))))
-        go false e = kids_miss m fa n (marked seen) h e
+      same : marked from k ≡ false → (i : ℕ) → Dec (i ≡ up) → marked handed_on i ≡ marked seen i
+      same e i (yes q) = own i q ∙ ap (λ (b : Bool). marked seen up || b) e ∙ or-false (marked seen up) ∙ ap (marked seen) (sym q)
+      same e i (no ne) = other i ne
 
-    pub handed_up : 1 ≤ k → Kids (Seen (marked from) 1 k) fa n (marked seen) → Kids (Seen (marked from) 1 (k + 1)) fa n (marked after)
-    handed_up l h = handed (more_up (marked from) k l) h
+      go : (b : Bool) → marked from k ≡ b → Kids T fa n (marked handed_on)
+      go true e =
+          kids_hit m fa n (marked seen) h e (marked handed_on)
+          (λ u. own (fa k) (sym p) ∙ ap (λ (b : Bool). marked seen up || b) e ∙ or-true (marked seen up))
+          (λ i ne. other i (λ z. ne (z ∙ p)))
+      go false e = kids_as fa n (marked seen) (marked handed_on) (λ i. same e i (ℕ_discrete i up)) (kids_miss m fa n (marked seen) h e)
 
-    pub handed_down : 1 ≤ k → k ≤ n → Kids (Seen (marked from) (k + 1) (n + 1)) fa n (marked seen) → Kids (Seen (marked from) (k - 1 + 1) (n + 1)) fa n (marked after)
-    handed_down l g h =
-        subst (λ (i : ℕ). Kids (Seen (marked from) i (n + 1)) fa n (marked after)) (let z : k ≡ k - 1 + 1 = omega arith in z) (handed (more_down (marked from) k n g) h)
+  pub handed_up : 1 ≤ k → Kids (Seen (marked from) 1 k) fa n (marked seen) → Kids (Seen (marked from) 1 (k + 1)) fa n (marked handed_on)
+  handed_up l h = handed (more_up (marked from) k l) h
 
-module _ (s : List ℕ) (n : ℕ) (f : Ready s n) (from : List ℕ) (j : ℕ) (l : 1 ≤ j) (h : j ≤ n) where
+  pub handed_down : (j : ℕ) → j ≡ k + 1 → k ≤ n → Kids (Seen (marked from) j (n + 1)) fa n (marked seen) → Kids (Seen (marked from) k (n + 1)) fa n (marked handed_on)
+  handed_down j e g h = handed (more_down (marked from) k n g) (subst (λ (i : ℕ). Kids (Seen (marked from) i (n + 1)) fa n (marked seen)) e h)
+
+module _ (s : List ℕ) (n : ℕ) (f : Ready s n) (from : List Bool) (j : ℕ) (l : 1 ≤ j) (h : j ≤ n) where
   -- the parent is an entry before j
   pub parent_small : (entries_of width s).fa j ≤ 4096
   parent_small = omega (arith, (f.facts.each j l h).fa_high, f.small)
 
-  module _ (hit : Bool) (u : ℕ) (p : u ≡ (entries_of width s).fa j) (marks : List ℕ) (q : hit ≡ (not (eqb u 0) && marked marks u)) where
+  module _ (hit : Bool) (u : ℕ) (p : u ≡ (entries_of width s).fa j) (marks : List Bool) (q : hit ≡ (not (eqb u 0) && marked marks u)) where
     at : hit ≡ (not (eqb ((entries_of width s).fa j) 0) && marked marks ((entries_of width s).fa j))
     at = q ∙ ap (λ (i : ℕ). not (eqb i 0) && marked marks i) p
 
-    pub later_is : Kids (Seen (marked from) 1 j) (entries_of width s).fa n (marked marks) → spreads 9 s n from j ≡ hit
-    later_is k = sym (at ∙ spread_later n (entries_of width s) f.facts f.small (marked from) j l h (marked marks) k)
+    pub later_is : Kids (Seen (marked from) 1 j) (entries_of width s).fa n (marked marks) → hit ≡ reached 9 s n from j
+    later_is k = at ∙ spread_later n (entries_of width s) f.facts f.small (marked from) j l h (marked marks) k
 
-    pub earlier_is : Kids (Seen (marked from) (j + 1) (n + 1)) (entries_of width s).fa n (marked marks) → spreads 10 s n from j ≡ hit
-    earlier_is k = sym (at ∙ spread_earlier n (entries_of width s) f.facts f.small (marked from) j l h (marked marks) k)
+    pub earlier_is : (after : ℕ) → after ≡ j + 1 → Kids (Seen (marked from) after (n + 1)) (entries_of width s).fa n (marked marks) → hit ≡ reached 10 s n from j
+    earlier_is after e k =
+        at
+        ∙ spread_earlier n (entries_of width s) f.facts f.small (marked from) j l h (marked marks)
+        (subst (λ (i : ℕ). Kids (Seen (marked from) i (n + 1)) (entries_of width s).fa n (marked marks)) e k)
 
-  pub child_is : (hit : Bool) (u : ℕ) → u ≡ (entries_of width s).fa j → hit ≡ (not (eqb u 0) && marked from u) → spreads 1 s n from j ≡ hit
+  pub child_is : (hit : Bool) (u : ℕ) → u ≡ (entries_of width s).fa j → hit ≡ (not (eqb u 0) && marked from u) → hit ≡ reached 1 s n from j
   child_is hit u p q =
-      spread_child n (entries_of width s) f.facts f.small (marked from) j l h
-      ∙ sym (q ∙ ap (λ (i : ℕ). not (eqb i 0) && marked from i) p)
+      q ∙ ap (λ (i : ℕ). not (eqb i 0) && marked from i) p
+      ∙ sym (spread_child n (entries_of width s) f.facts f.small (marked from) j l h)
 
 -- every parent of a marked rank has a mark
-pub parents_are : (s : List ℕ) (n : ℕ) → Ready s n → (from m : List ℕ) (j : ℕ) → j ≡ n → length m ≡ 4097
-    → Kids (Seen (marked from) 1 (j + 1)) (entries_of width s).fa n (marked m) → Marks n (spreads 4 s n from) m
+pub parents_are : (s : List ℕ) (n : ℕ) → Ready s n → (from m : List Bool) (j : ℕ) → j ≡ n + 1 → length m ≡ 4097
+    → Kids (Seen (marked from) 1 j) (entries_of width s).fa n (marked m) → Marks n (reached 4 s n from) m
 parents_are s n f from m j e w k = record {
   long = w;
   are = λ i l h. spread_parent n (entries_of width s) f.facts f.small (marked from) i l h (marked m)
-      (subst (λ (x : ℕ). Kids (Seen (marked from) 1 (x + 1)) (entries_of width s).fa n (marked m)) e k);
+      (subst (λ (x : ℕ). Kids (Seen (marked from) 1 x) (entries_of width s).fa n (marked m)) e k);
 }
+
+-- ---- the marks of a pass
+
+-- of the ranks before j those that are reached have a mark beside the ones that were there
+abbrev pub Upward : ℕ → List ℕ → ℕ → List Bool → List Bool → ℕ → List Bool → Type 0
+Upward axis s n from before j m = Done n (λ i. ltb i j) (λ i. marked before i || reached axis s n from i) before m
+
+-- of the ranks from j on
+abbrev pub Downward : ℕ → List ℕ → ℕ → List Bool → List Bool → ℕ → List Bool → Type 0
+Downward axis s n from before j m = Done n (λ i. leb j i) (λ i. marked before i || reached axis s n from i) before m

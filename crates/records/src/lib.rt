@@ -1,8 +1,7 @@
 // Layer 3, records: signature records, read into signatures of data trees.
 #![tactic(auto)]
 
-ghost use Rattle.std.specs.Prelude.{◌≡◌, [], ◌∷◌, ◌+◌, ◌*◌, ◌≤◌, length};
-ghost use Rattle.std.proofs.lemmas.List.Edits.{sets};
+ghost use Rattle.std.specs.Prelude.{◌≡◌, ◌*◌, ◌≤◌, length};
 ghost use Rattle.trees.specs.Signature.{width};
 ghost use Rattle.terms.specs.Faults.{tested};
 ghost use Rattle.terms.specs.Room.{front_with};
@@ -55,14 +54,6 @@ fn count_records(bytes: &[u8]) -> Result<u16, Fault>
     Ok(count)
 }
 
-// Writes one entry at a place of the room.
-fn put_entry(room: &mut [u16], at: usize, name: u16, post: u16, ff: u16, fa: u16)
-    requires { at + 4 ≤ length room.old }
-    ensures { room.new ≡ sets room.old at (name ∷ post ∷ ff ∷ fa ∷ []) }
-{
-    room[at..at + 4].copy_from_slice(&[name, post, ff, fa]);
-}
-
 // Writes the numbers of the first size records to the front of the room.
 fn fill_numbers(bytes: &[u8], size: usize, room: &mut [u16])
     requires { (size ≤ 4096) × (10 * size ≤ length bytes.now) × (width * size ≤ length room.old) }
@@ -74,7 +65,7 @@ fn fill_numbers(bytes: &[u8], size: usize, room: &mut [u16])
         let post = number_at(bytes, at + 4);
         let ff = number_at(bytes, at + 6);
         let fa = number_at(bytes, at + 8);
-        put_entry(room, 4 * i, name, post, ff, fa);
+        room[4 * i..4 * i + 4].copy_from_slice(&[name, post, ff, fa]);
     }
 }
 

@@ -67,13 +67,25 @@ fn build_tree(limits: Limits, bytes: &[u8], whole: bool, from: usize, own: &mut 
         if is_marked(bytes, at, b'O', b'P') {
             open_entry(own, count, number_at(bytes, at + 2), top);
             top = count + 1;
-            cursor = Cursor { at: at + 4, depth: depth + 1, count: count + 1 };
+            cursor = Cursor {
+                at: at + 4,
+                depth: depth + 1,
+                count: count + 1,
+            };
         } else {
             top = close_entry(own, top, count - depth + 1, count + 1);
-            cursor = Cursor { at: at + 2, depth: depth - 1, count };
+            cursor = Cursor {
+                at: at + 2,
+                depth: depth - 1,
+                count,
+            };
         }
     }
-    Judged { at: cursor.at, count: cursor.count, verdict: Ok(()) }
+    Judged {
+        at: cursor.at,
+        count: cursor.count,
+        verdict: Ok(()),
+    }
 }
 
 // Copies numbers to the front of the room. A room that is too short for them is left alone.

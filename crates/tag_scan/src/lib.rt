@@ -5,9 +5,8 @@ mod limits;
 
 ghost use Rattle.std.specs.Prelude.{◌≡◌, true, ◌+◌, ◌≤◌, length};
 
-use terms::Fault;
-
 pub use limits::Limits;
+use terms::Fault;
 
 // Where a reader of tags stands: the place of the next tag, the elements that are open, and the elements read so far.
 #[derive(Clone, Copy)]
@@ -54,9 +53,10 @@ impl Cursor {
     pub fn test_tag(self, bytes: &[u8], limits: Limits) -> Result<(), Fault>
         ensures { tested result ≡ tag_fault limits.any_name limits.most bytes.now (scan_of self) }
     {
-        if bytes.len() <= self.at && 0 < self.count {
+        let left = bytes.len().saturating_sub(self.at);
+        if left == 0 && 0 < self.count {
             Err(Fault::BadNesting)
-        } else if bytes.len() <= self.at || bytes.len() - self.at < 2 {
+        } else if left < 2 {
             Err(Fault::Cut)
         } else if bytes_read::is_marked(bytes, self.at, b'O', b'P') {
             self.test_open(bytes, limits)

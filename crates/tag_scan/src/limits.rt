@@ -11,6 +11,7 @@ pub struct Limits {
 impl From<Kind> for Limits {
     ghost use Rattle.std.specs.Prelude.{◌≡◌};
     ghost use Rattle.tag_scan.specs.Cursors.{limits_of};
+
     ghost from_gives = { λ k l. l ≡ limits_of k };
 
     // The limits of a kind of tree.

@@ -29,6 +29,7 @@ fn put_close(room: &mut [u8], at: usize)
 }
 
 // Whether the innermost open element ends before the next entry.
+#[tactic(auto, unfolding(crate::specs::TagsBack::ends_at))]
 fn is_ending(sig: &[u16], next: u16, top: u16) -> bool
     ensures { result ≡ ends_at sig.now next top }
 {
@@ -43,7 +44,7 @@ fn write_tags(sig: &[u16], count: u16, room: &mut [u8])
     let mut at: usize = 0;
     let mut opened: u16 = 0;
     let mut top: u16 = 0;
-    for tag in 0..2 * count {
+    for _ in 0..2 * count {
         let next = opened + 1;
         if is_ending(sig, next, top) {
             put_close(room, at);

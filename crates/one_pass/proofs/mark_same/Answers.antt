@@ -1,20 +1,23 @@
-use lib.ListN.{length-set}
-use Rattle.marks.proofs.Marking.{mark_yes, mark_no, part_none, part_hit, part_miss, part_done}
-use native.Mathlib.Omega.{arith}
+use Rattle.std.proofs.Common.{refl, arith, ◌∙◌}
+use Rattle.std.proofs.lemmas.List.{length-set}
+use Rattle.marks.specs.Marks.{marked}
+use Rattle.marks.proofs.Marking.{upward_none, upward_beside, upward_done}
 use Rattle.one_pass.proofs.mark_same.Goals as goal
 
 pub loop-j-init : goal.loop-j-init
-loop-j-init c = ((omega arith), c.requires.1, part_none _ _ _)
-
-pub loop-j-preserved-then-from-at-eq1 : goal.loop-j-preserved-then-from-at-eq1
-loop-j-preserved-then-from-at-eq1 c =
-    let l = c.loop-j in
-    ((omega arith), simp length-set l.invariant.1, part_hit _ _ _ _ _ l.invariant.2 (mark_yes _ _ c.if-from-at-eq1.true) (omega (arith, l.invariant.1, c.requires.0)))
+loop-j-init c = record { long = c.told-found; done = upward_none _ _ _ }
 
 pub loop-j-preserved : goal.loop-j-preserved
 loop-j-preserved c =
+    let t = c.args.tree.now in
     let l = c.loop-j in
-    ((omega arith), l.invariant.1, part_miss _ _ _ _ _ l.invariant.2 (mark_no _ _ c.if-from-at-eq1.false))
+    let i = l.invariant in
+    record {
+      long = length-set l.found l.j _ ∙ i.long;
+      done = upward_beside t.n (marked c.args.from.now) c.args.found.now l.j (omega arith) (omega arith) l.found (omega (arith, i.long, t.small)) _ refl i.done;
+    }
 
 pub returns : goal.returns
-returns c = part_done _ _ _ _ _ (omega arith) c.loop-j.invariant.1 c.loop-j.invariant.2
+returns c =
+    let i = c.loop-j.invariant in
+    upward_done _ _ _ c.loop-j.j _ (omega arith) i.long i.done

@@ -1,11 +1,9 @@
--- Two stores.
-use lib.ListN.{length-set}
-use Rattle.bytes_read.proofs.Rooms.{sets_two}
+-- Two bytes are copied to their place.
+use mathlib.Core.Path.{refl}
+use mathlib.Core.List.{[], ◌∷◌}
 use native.Mathlib.Omega.{arith}
+use Rattle.bytes_read.proofs.Rooms.{put_sets}
 use Rattle.tag_writing.proofs.put_close.Goals as goal
 
-pub bounds-room-at-2 : goal.bounds-room-at-2
-bounds-room-at-2 c = simp length-set (omega arith)
-
 pub returns : goal.returns
-returns c = let a = c.args in sets_two a.room.now a.at 67 76
+returns c = let a = c.args in put_sets a.room.now a.at _ _ (67 ∷ 76 ∷ []) _ refl c.copy_from_slice.ensures.after (omega arith) (omega arith)

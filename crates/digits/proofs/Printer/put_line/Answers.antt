@@ -21,4 +21,4 @@ loop-i-preserved c =
 pub returns : goal.returns
 returns c =
     let i = c.loop-i in
-    printed_then c.put_word.ensures (onward_done (rw (numbers_end c.args.list.now i.i (omega arith)) at i.invariant))
+    printed_then c.put_word.ensures (onward_done (rw (numbers_end c.args.list.now i.i c.loop-i-test.false) at i.invariant))

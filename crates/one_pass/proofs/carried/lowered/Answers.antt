@@ -1,19 +1,16 @@
--- Each way out is one case of the definition.
-use Rattle.one_pass.proofs.Passes.{lower_yes, lower_no}
-use native.Mathlib.Omega.{arith}
+-- Where the mark is set, the number is the library's min.
+use Rattle.std.proofs.Common.{sym, ap, ◌∙◌, Bool}
+use Rattle.xpath.specs.Spread.{lowered_to}
+use Rattle.one_pass.proofs.Passes.{lower_on}
 use Rattle.one_pass.proofs.carried.lowered.Goals as goal
 
-pub returns-then-y-x : goal.returns-then-y-x
-returns-then-y-x c =
+pub returns-then-mark : goal.returns-then-mark
+returns-then-mark c =
     let a = c.args in
-    lower_yes a.mark a.x a.y (omega (arith, c.if-mark-eq1.true)) (omega arith)
+    c.min.ensures ∙ lower_on a.x a.y ∙ ap (λ (b : Bool). lowered_to b a.x a.y) (sym c.if-mark.true)
 
-pub returns-else-y-x : goal.returns-else-y-x
-returns-else-y-x c =
+pub returns-else-mark : goal.returns-else-mark
+unfolding lowered_to
+returns-else-mark c =
     let a = c.args in
-    lower_no a.mark a.x a.y (λ e. omega (arith, c.if-y-x.false))
-
-pub returns-else-mark-eq1 : goal.returns-else-mark-eq1
-returns-else-mark-eq1 c =
-    let a = c.args in
-    lower_no a.mark a.x a.y (λ e. absurd (c.if-mark-eq1.false e))
+    ap (λ (b : Bool). lowered_to b a.x a.y) (sym c.if-mark.false)

@@ -1,32 +1,30 @@
-use Prim.Native.Nat.{◌+◌}
-use lib.ListN.{length-set}
+use Rattle.std.proofs.Common.{arith, ◌∙◌}
+use Rattle.std.proofs.lemmas.List.{length-set}
 use Rattle.trees.specs.Signature.{entries_of, width}
 use Rattle.xpath.specs.Spread.{none_up}
-use Rattle.marks.proofs.Marking.{part_none, part_hit, part_miss, part_done}
-use Rattle.one_pass.proofs.Passes.{raised_up, below_yes, below_no}
-use native.Mathlib.Omega.{arith}
+use Rattle.blocks.proofs.Calls.{ready}
+use Rattle.marks.proofs.Marking.{upward_none, upward_beside, upward_done}
+use Rattle.one_pass.specs.Reached.{reached}
+use Rattle.one_pass.proofs.Passes.{raised_up, below_is}
 use Rattle.one_pass.proofs.carried.mark_below.Goals as goal
 
 pub loop-j-init : goal.loop-j-init
-loop-j-init c = ((omega arith), c.requires.1, none_up _ _, part_none _ _ _)
-
-pub loop-j-preserved-then-j-before : goal.loop-j-preserved-then-j-before
-loop-j-preserved-then-j-before c =
-    let l = c.loop-j in
-    let a = c.args in
-    let p = c.requires in
-    let x = raised_up a.from.now (l.j + 1) l.reach _ _ (entries_of width a.sig.now).ff (omega arith) c.first_past.ensures c.raised-reach.ensures l.invariant.2 in
-    let k = below_yes a.sig.now a.n p.0 a.from.now (l.j + 1) (omega arith) (omega arith) l.reach l.invariant.2 (omega (arith, c.if-j-before.true)) in
-    ((omega arith), simp length-set l.invariant.1, x, part_hit _ _ _ _ _ l.invariant.3 k (omega (arith, l.invariant.1, p.0.small)))
+loop-j-init c = record { long = c.told-found; carried = none_up _ _; done = upward_none _ _ _ }
 
 pub loop-j-preserved : goal.loop-j-preserved
 loop-j-preserved c =
+    let t = c.args.tree.now in
+    let from = c.args.from.now in
     let l = c.loop-j in
-    let a = c.args in
-    let p = c.requires in
-    let x = raised_up a.from.now (l.j + 1) l.reach _ _ (entries_of width a.sig.now).ff (omega arith) c.first_past.ensures c.raised-reach.ensures l.invariant.2 in
-    let k = below_no a.sig.now a.n p.0 a.from.now (l.j + 1) (omega arith) (omega arith) l.reach l.invariant.2 (omega (arith, c.if-j-before.false)) in
-    ((omega arith), l.invariant.1, x, part_miss _ _ _ _ _ l.invariant.3 k)
+    let i = l.invariant in
+    record {
+      long = length-set l.found l.j _ ∙ i.long;
+      carried = raised_up from l.j l.reach _ _ (entries_of width t.sig.now).ff (omega arith) c.first_past.ensures c.raised-reach.ensures i.carried;
+      done = upward_beside t.n (reached 2 t.sig.now t.n from) c.args.found.now l.j (omega arith) (omega arith) l.found (omega (arith, i.long, t.small)) _
+          (below_is t.sig.now t.n (ready _ _ t.accepted t.counted) from l.j (omega arith) (omega arith) l.reach i.carried) i.done;
+    }
 
 pub returns : goal.returns
-returns c = part_done _ _ _ _ _ (omega arith) c.loop-j.invariant.1 c.loop-j.invariant.3
+returns c =
+    let i = c.loop-j.invariant in
+    upward_done _ _ _ c.loop-j.j _ (omega arith) i.long i.done

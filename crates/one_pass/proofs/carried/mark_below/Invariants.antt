@@ -1,19 +1,14 @@
--- The number is the greatest ff of the marked ranks so far, so that it is above j exactly if one of them has j below it.
-use mathlib.Core.Path.{◌≡◌}
-use Prim.Native.Nat.{◌+◌, ◌-◌, ◌≤◌}
-use lib.ListN.{length}
-use lib.Dec.{leb}
+-- The number is the greatest ff of the marked ranks before j, so that it is above j exactly if one of them has j below it.
+use Rattle.std.proofs.Common.{◌≡◌, length}
 use Rattle.trees.specs.Signature.{entries_of, width}
 use Rattle.xpath.specs.Spread.{Seen, Greatest}
 use Rattle.marks.specs.Marks.{marked}
-use Rattle.marks.proofs.Marking.{Over}
-use Rattle.one_pass.proofs.Passes.{spreads}
+use Rattle.one_pass.proofs.Passes.{Upward}
 use Rattle.one_pass.proofs.carried.mark_below.Given as goal
 
 abbrev pub invariant-loop-j : goal.invariant-loop-j
-invariant-loop-j l =
-    (l.j ≤ l.n) × (length l.found ≡ 4097) × Greatest (Seen (marked l.from) 1 (l.j + 1)) (entries_of width l.sig).ff l.reach
-    × Over l.n (λ i. leb i l.j) (spreads 2 l.sig l.n l.from) l.initial.found l.found
-
-abbrev pub decreases-loop-j : goal.decreases-loop-j
-decreases-loop-j l = l.n - l.j
+invariant-loop-j l = record {
+  long : length l.found ≡ 4097;
+  carried : Greatest (Seen (marked l.from) 1 l.j) (entries_of width l.tree.sig.now).ff l.reach;
+  done : Upward 2 l.tree.sig.now l.tree.n l.from l.initial.found l.j l.found;
+}

@@ -1,30 +1,31 @@
-use lib.ListN.{length-set}
+use Rattle.std.proofs.Common.{arith, ◌∙◌, ◌-◌, ◌+◌, ◌≡◌}
+use Rattle.std.proofs.lemmas.List.{length-set}
 use Rattle.xpath.specs.Spread.{none_down}
-use Rattle.marks.proofs.Marking.{back_none, back_hit, back_miss, back_done}
-use Rattle.one_pass.proofs.Passes.{raised_down, preceding_yes, preceding_no}
-use native.Mathlib.Omega.{arith}
+use Rattle.blocks.proofs.Calls.{ready}
+use Rattle.marks.proofs.Marking.{downward_none, downward_beside, downward_done}
+use Rattle.one_pass.specs.Reached.{reached}
+use Rattle.one_pass.proofs.Passes.{raised_down, preceding_is}
 use Rattle.one_pass.proofs.carried.mark_preceding.Goals as goal
 
 pub loop-j-init : goal.loop-j-init
-loop-j-init c = ((omega arith), c.requires.1, none_down _ _ _, back_none _ _ _)
-
-pub loop-j-preserved-then-past-after : goal.loop-j-preserved-then-past-after
-loop-j-preserved-then-past-after c =
-    let l = c.loop-j in
-    let a = c.args in
-    let p = c.requires in
-    let x = raised_down a.from.now l.j l.last _ l.j a.n (omega arith) (omega arith) c.raised-last.ensures l.invariant.2 in
-    let k = preceding_yes a.sig.now a.n p.0 a.from.now l.j (omega arith) (omega arith) l.last _ c.first_past-past.ensures l.invariant.2 (omega (arith, c.if-past-after.true)) in
-    ((omega arith), simp length-set l.invariant.1, x, back_hit _ _ _ _ (omega arith) _ l.invariant.3 k (omega (arith, l.invariant.1, p.0.small)))
+loop-j-init c = record { long = c.told-found; carried = none_down _ _ _; done = downward_none _ _ _ _ (omega arith) }
 
 pub loop-j-preserved : goal.loop-j-preserved
 loop-j-preserved c =
+    let t = c.args.tree.now in
+    let from = c.args.from.now in
     let l = c.loop-j in
-    let a = c.args in
-    let p = c.requires in
-    let x = raised_down a.from.now l.j l.last _ l.j a.n (omega arith) (omega arith) c.raised-last.ensures l.invariant.2 in
-    let k = preceding_no a.sig.now a.n p.0 a.from.now l.j (omega arith) (omega arith) l.last _ c.first_past-past.ensures l.invariant.2 (omega (arith, c.if-past-after.false)) in
-    ((omega arith), l.invariant.1, x, back_miss _ _ _ _ (omega arith) _ l.invariant.3 k)
+    let i = l.invariant in
+    let k = l.j - 1 in
+    let e : l.j ≡ k + 1 = omega arith in
+    record {
+      long = length-set l.found k _ ∙ i.long;
+      carried = raised_down from k l.last _ k t.n l.j e (omega arith) c.raised-last.ensures i.carried;
+      done = downward_beside t.n (reached 8 t.sig.now t.n from) c.args.found.now k (omega arith) (omega arith) l.found (omega (arith, i.long, t.small)) _
+          (preceding_is t.sig.now t.n (ready _ _ t.accepted t.counted) from k (omega arith) (omega arith) l.last l.j e _ c.first_past-past.ensures i.carried) l.j e i.done;
+    }
 
 pub returns : goal.returns
-returns c = back_done _ _ _ _ _ (omega arith) c.loop-j.invariant.1 c.loop-j.invariant.3
+returns c =
+    let i = c.loop-j.invariant in
+    downward_done _ _ _ c.loop-j.j _ (omega arith) i.long i.done

@@ -1,19 +1,16 @@
--- Each way out is one case of the definition.
-use Rattle.one_pass.proofs.Passes.{raise_yes, raise_no}
-use native.Mathlib.Omega.{arith}
+-- Where the mark is set, the number is the library's max.
+use Rattle.std.proofs.Common.{sym, ap, ◌∙◌, Bool}
+use Rattle.xpath.specs.Spread.{raised_to}
+use Rattle.one_pass.proofs.Passes.{raise_on}
 use Rattle.one_pass.proofs.carried.raised.Goals as goal
 
-pub returns-then-x-y : goal.returns-then-x-y
-returns-then-x-y c =
+pub returns-then-mark : goal.returns-then-mark
+returns-then-mark c =
     let a = c.args in
-    raise_yes a.mark a.x a.y (omega (arith, c.if-mark-eq1.true)) (omega arith)
+    c.max.ensures ∙ raise_on a.x a.y ∙ ap (λ (b : Bool). raised_to b a.x a.y) (sym c.if-mark.true)
 
-pub returns-else-x-y : goal.returns-else-x-y
-returns-else-x-y c =
+pub returns-else-mark : goal.returns-else-mark
+unfolding raised_to
+returns-else-mark c =
     let a = c.args in
-    raise_no a.mark a.x a.y (λ e. omega (arith, c.if-x-y.false))
-
-pub returns-else-mark-eq1 : goal.returns-else-mark-eq1
-returns-else-mark-eq1 c =
-    let a = c.args in
-    raise_no a.mark a.x a.y (λ e. absurd (c.if-mark-eq1.false e))
+    ap (λ (b : Bool). raised_to b a.x a.y) (sym c.if-mark.false)

@@ -1,55 +1,63 @@
-use mathlib.Core.Path.{◌∙◌}
-use lib.ListN.{length-set}
+use Rattle.std.proofs.Common.{arith, ◌∙◌, ◌-◌, ◌+◌, ◌≡◌}
+use Rattle.std.proofs.lemmas.List.{length-set}
 use Rattle.trees.specs.Signature.{entries_of, width}
 use Rattle.xpath.proofs.SpreadKids.{kids_none}
-use Rattle.marks.proofs.Marking.{marks_none, back_none, back_hit, back_miss, back_done}
-use Rattle.one_pass.proofs.Passes.{parent_small, earlier_is, handed_length, handed_down}
-use native.Mathlib.Omega.{arith}
+use Rattle.blocks.proofs.Calls.{ready}
+use Rattle.marks.proofs.Marking.{marks_none, downward_none, downward_beside, downward_done}
+use Rattle.one_pass.specs.Reached.{reached}
+use Rattle.one_pass.proofs.Passes.{parent_small, earlier_is, handed_down}
 use Rattle.one_pass.proofs.handed.mark_earlier.Goals as goal
 
 pub loop-j-init : goal.loop-j-init
 loop-j-init c =
-    let p = c.requires in
-    let z = marks_none c.args.n p.0.small in
-    ((omega arith), p.1, z.long, kids_none _ _ _ _ _ z.are, back_none _ _ _)
+    let z = marks_none c.args.tree.now.n c.args.tree.now.small in
+    record { long = c.told-found; seen_long = z.long; handed = kids_none _ _ _ _ _ z.are; done = downward_none _ _ _ _ (omega arith) }
 
-pub is_marked_above-hit-requires : goal.is_marked_above-hit-requires
-is_marked_above-hit-requires c =
-    let l = c.loop-j in
-    let a = c.args in
-    omega (arith, c.parent-up.ensures, parent_small a.sig.now a.n c.requires.0 a.from.now l.j (omega arith) (omega arith))
+pub is_marked_above-requires : goal.is_marked_above-requires
+is_marked_above-requires c =
+    let t = c.args.tree.now in
+    omega (arith, c.parent-up.ensures, parent_small t.sig.now t.n (ready _ _ t.accepted t.counted) c.args.from.now (c.loop-j.j - 1) (omega arith) (omega arith))
 
-pub hand_on-requires : goal.hand_on-requires
-hand_on-requires c =
-    let l = c.loop-j in
-    let a = c.args in
-    omega (arith, c.parent-up.ensures, parent_small a.sig.now a.n c.requires.0 a.from.now l.j (omega arith) (omega arith))
+pub bounds-seen-up : goal.bounds-seen-up
+bounds-seen-up c =
+    let t = c.args.tree.now in
+    omega (
+      arith,
+      c.loop-j.invariant.seen_long,
+      c.parent-up.ensures,
+      parent_small t.sig.now t.n (ready _ _ t.accepted t.counted) c.args.from.now (c.loop-j.j - 1) (omega arith) (omega arith),
+    )
 
-pub loop-j-preserved-then-hit : goal.loop-j-preserved-then-hit
-loop-j-preserved-then-hit c =
-    let l = c.loop-j in
-    let a = c.args in
-    let f = c.requires.0 in
-    let q = c.hand_on.ensures in
-    let u = c.parent-up.ensures in
-    let s = parent_small a.sig.now a.n f a.from.now l.j (omega arith) (omega arith) in
-    let k = earlier_is a.sig.now a.n f a.from.now l.j (omega arith) (omega arith) _ _ u l.seen c.is_marked_above-hit.ensures l.invariant.3 ∙ c.if-hit.true in
-    let long = handed_length a.from.now l.seen _ l.j _ q ∙ l.invariant.2 in
-    let h = handed_down a.from.now l.seen _ l.j _ q (entries_of width a.sig.now).fa a.n u (omega (arith, u, s, l.invariant.2)) (omega arith) (omega arith) l.invariant.3 in
-    ((omega arith), simp length-set l.invariant.1, long, h, back_hit _ _ _ _ (omega arith) _ l.invariant.4 k (omega (arith, l.invariant.1, f.small)))
+pub bounds-seen-up-in-loop-j : goal.bounds-seen-up-in-loop-j
+bounds-seen-up-in-loop-j c =
+    let t = c.args.tree.now in
+    omega (
+      arith,
+      c.loop-j.invariant.seen_long,
+      c.parent-up.ensures,
+      parent_small t.sig.now t.n (ready _ _ t.accepted t.counted) c.args.from.now (c.loop-j.j - 1) (omega arith) (omega arith),
+    )
 
 pub loop-j-preserved : goal.loop-j-preserved
 loop-j-preserved c =
+    let t = c.args.tree.now in
+    let r = ready _ _ t.accepted t.counted in
+    let from = c.args.from.now in
     let l = c.loop-j in
-    let a = c.args in
-    let f = c.requires.0 in
-    let q = c.hand_on.ensures in
+    let i = l.invariant in
+    let k = l.j - 1 in
+    let e : l.j ≡ k + 1 = omega arith in
     let u = c.parent-up.ensures in
-    let s = parent_small a.sig.now a.n f a.from.now l.j (omega arith) (omega arith) in
-    let k = earlier_is a.sig.now a.n f a.from.now l.j (omega arith) (omega arith) _ _ u l.seen c.is_marked_above-hit.ensures l.invariant.3 ∙ c.if-hit.false in
-    let long = handed_length a.from.now l.seen _ l.j _ q ∙ l.invariant.2 in
-    let h = handed_down a.from.now l.seen _ l.j _ q (entries_of width a.sig.now).fa a.n u (omega (arith, u, s, l.invariant.2)) (omega arith) (omega arith) l.invariant.3 in
-    ((omega arith), l.invariant.1, long, h, back_miss _ _ _ _ (omega arith) _ l.invariant.4 k)
+    let s = parent_small t.sig.now t.n r from k (omega arith) (omega arith) in
+    record {
+      long = length-set l.found k _ ∙ i.long;
+      seen_long = length-set l.seen _ _ ∙ i.seen_long;
+      handed = handed_down from l.seen k _ (entries_of width t.sig.now).fa t.n u (omega (arith, u, s, i.seen_long)) l.j e (omega arith) i.handed;
+      done = downward_beside t.n (reached 10 t.sig.now t.n from) c.args.found.now k (omega arith) (omega arith) l.found (omega (arith, i.long, t.small)) _
+          (earlier_is t.sig.now t.n r from k (omega arith) (omega arith) _ _ u l.seen c.is_marked_above.ensures l.j e i.handed) l.j e i.done;
+    }
 
 pub returns : goal.returns
-returns c = back_done _ _ _ _ _ (omega arith) c.loop-j.invariant.1 c.loop-j.invariant.4
+returns c =
+    let i = c.loop-j.invariant in
+    downward_done _ _ _ c.loop-j.j _ (omega arith) i.long i.done

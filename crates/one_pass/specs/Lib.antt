@@ -1,0 +1,2 @@
+-- One pass: what a pass over the entries marks.
+pub mod Reached
