@@ -15,11 +15,7 @@ pub fn byte_at(bytes: &[u8], at: usize) -> u8
 pub fn byte_after(bytes: &[u8], at: usize) -> u8
     ensures { result ≡ get_or bytes.now (at + 1) 0 }
 {
-    if at < bytes.len() {
-        byte_at(bytes, at + 1)
-    } else {
-        0
-    }
+    byte_at(bytes, at.saturating_add(1))
 }
 
 // The number at a place, low byte first.

@@ -1,12 +1,13 @@
 // Layer 3, record_writing: signature records, written from signatures of data trees.
 #![tactic(auto)]
 
-ghost use Rattle.std.specs.Prelude.{◌≡◌, [], ◌+◌, ◌*◌, ◌≤◌, length};
+ghost use Rattle.std.specs.Prelude.{◌≡◌, ◌==◌, [], ◌+◌, ◌*◌, ◌≤◌, length, slice_index};
+ghost use Rattle.std.specs.List.{list_any, range_with_len};
 ghost use Rattle.std.proofs.lemmas.List.Edits.{sets};
 ghost use Rattle.trees.specs.Signature.{width};
 ghost use Rattle.terms.specs.Faults.{tested};
 ghost use Rattle.terms.specs.Room.{front_with};
-ghost use Rattle.records.specs.Records.{entry_bytes, bytes_from, nameless_from, write_fault, WritePromise};
+ghost use Rattle.records.specs.Records.{entry_bytes, bytes_from, write_fault, WritePromise};
 
 use terms::{Fault, Kind, Refusal};
 
@@ -25,14 +26,9 @@ fn put_record(room: &mut [u8], at: usize, name: u16, post: u16, ff: u16, fa: u16
 // Whether one of the first size entries has name 0.
 fn has_nameless(sig: &[u16], size: usize) -> bool
     requires { width * size ≤ length sig.now }
-    ensures { result ≡ nameless_from sig.now 0 size }
+    ensures { result ≡ list_any (λ i. slice_index sig.now (4 * i) == 0) (range_with_len 0 size) }
 {
-    for i in 0..size {
-        if sig[4 * i] == 0 {
-            return true;
-        }
-    }
-    false
+    (0..size).any(|i| sig[4 * i] == 0)
 }
 
 // Writes the records of the first size entries to the front of the room.
@@ -47,7 +43,7 @@ fn fill_records(sig: &[u16], size: usize, room: &mut [u8])
 }
 
 // The fault of a signature whose records are to be written.
-#[tactic(auto, unfolding(records::specs::Records::write_fault))]
+#[tactic(auto, using(records::proofs::Filling::names_any), unfolding(records::specs::Records::write_fault))]
 fn test_signature(sig: &[u16]) -> Result<(), Fault>
     ensures { tested result ≡ write_fault sig.now }
 {
