@@ -5,8 +5,8 @@ ghost use Rattle.signature_calls.specs.Check.{CheckTurnPromise};
 ghost use Rattle.signature_calls.specs.Axes.{LevelNumbers, PlaceNumbers, AxisNumbers};
 
 use checking::CheckState;
-use telling::{Saved, kind_of, tell, tell_turn};
-use terms::PreRank;
+use telling::{Saved, tell, tell_turn};
+use terms::{Kind, PreRank};
 
 // A turn of the check on a lent state: next, top, closed. out: stop, steps, entry.
 pub fn check_turn(
@@ -18,7 +18,7 @@ pub fn check_turn(
 ) -> u16
     ensures { CheckTurnPromise kind sig.now budget state.old result state.new out.new }
 {
-    let turned = CheckState::from_numbers(state).turn(kind_of(kind), sig, budget);
+    let turned = CheckState::from_numbers(state).turn(Kind::from(kind), sig, budget);
     tell_turn(turned, state, out)
 }
 

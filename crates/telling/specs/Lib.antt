@@ -1,4 +1,4 @@
--- How the bare numbers of the C interface stand for kinds, stop reasons, answers and states.
+-- How the bare numbers of the C interface stand for stop reasons, answers and states.
 pub mod Numbers
 pub mod Answers
 pub mod States

@@ -1,11 +1,11 @@
-// Layer 6, telling: the numbers of the C interface. What kind a number names and which state saved numbers stand for, and what a call answers or a
-// turn leaves, told in numbers: the refusal's number is returned, and out takes the others.
+// Layer 6, telling: the numbers of the C interface. Which state saved numbers stand for, and what a call answers or a turn leaves, told in numbers: the
+// refusal's number is returned, and out takes the others.
 #![tactic(auto)]
 
 ghost use Rattle.std.specs.Prelude.{◌≡◌, ℕ, List, Result, Ok, Err};
 ghost use Rattle.terms.specs.declared.Refusal.{Refusal};
 ghost use Rattle.terms.specs.Stops.{told, answered};
-ghost use Rattle.telling.specs.Numbers.{kind_of, TurnTold, AnswerTold};
+ghost use Rattle.telling.specs.Numbers.{TurnTold, AnswerTold};
 ghost use Rattle.telling.specs.Answers.{LevelSaid, PlaceSaid, StartSaid};
 
 mod saved;
@@ -13,14 +13,7 @@ mod saved;
 pub use saved::{Saved, tell_turn};
 
 use preparing::Prep;
-use terms::{Kind, Refusal, Stop};
-
-// The kind of tree that a number names: 0 a data tree, any other number a twig.
-pub fn kind_of(kind: u16) -> Kind
-    ensures { result ≡ kind_of kind }
-{
-    if kind == 0 { Kind::Data } else { Kind::Twig }
-}
+use terms::{Refusal, Stop};
 
 // Puts what stopped a turn, its steps and the entry into out, and gives the refusal's number, or 0.
 pub fn tell_stop(stop: Stop, steps: u64, out: &mut [u64; 3]) -> u16
