@@ -28,7 +28,7 @@ fn is_ending(sig: &[u16], next: u16, top: u16) -> bool
 }
 
 // Writes the tag list of a tree's signature to the front of the room: an element that ends before the next entry closes, else the next entry opens.
-fn write_tags(sig: &[u16], count: u16, room: &mut [u8])
+fn write_tags(sig: &[u16], count: usize, room: &mut [u8])
     requires { (count ≤ 4096) × (6 * count ≤ length room.old) × ((t : Tree) × (sig.now ≡ signature t) × (size (whole t) ≡ count)) }
     ensures { room.new ≡ front_with (back_bytes sig.now) room.old }
 {
@@ -59,7 +59,7 @@ fn write_back(sig: &[u16], room: &mut [u8]) -> Result<usize, Refusal>
     if room.len() / 6 < size {
         return Err(Fault::NoRoom.into());
     }
-    write_tags(sig, size as u16, room);
+    write_tags(sig, size, room);
     Ok(6 * size)
 }
 
