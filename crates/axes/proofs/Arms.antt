@@ -3,7 +3,7 @@
 --   named_kept         the p-th named rank of a range is what is kept of the range
 --   arm_self, …        each axis by the search that the code makes for it
 use Prim.Native.Nat.{ℕ, ◌-◌, ◌≤◌, ◌<◌}
-use mathlib.Core.Path.{◌≡◌, ap, ◌∙◌, sym, subst}
+use mathlib.Core.Path.{◌≡◌, ap, ◌∙◌, sym}
 use mathlib.Core.List.{List}
 use mathlib.Core.Logic.{⊎_elim}
 use mathlib.Core.Bool.{Bool, ◌&&◌, and-false, and-true}
@@ -100,8 +100,3 @@ module _ (n : ℕ) (e : Entries) (f : Facts n e) (axis test p : ℕ) (lp : 1 ≤
 
     pub arm_earlier : axis ≡ 10 → after ≡ up → last ≡ c - 1 → Kept
     arm_earlier a s t = rowed up (λ i l h. axis_preceding_sibling axis n e.fa c i a ∙ row_earlier n e f c lc hc after last i l h up u s t) o
-
--- the search before a context is that of its axis
-pub arm_preceding : (n : ℕ) (e : Entries) (axis c test p r : ℕ) → axis ≡ 8 → Only n (kept 8 p (chosen 8 n e.fa e.name test c)) r
-    → Only n (kept axis p (chosen axis n e.fa e.name test c)) r
-arm_preceding n e axis c test p r a = subst (λ (x : ℕ). Only n (kept x p (chosen x n e.fa e.name test c)) r) (sym a)

@@ -5,7 +5,7 @@
 --   climb_start      after start nothing is on the axis
 --   climb_count, climb_next   what is chosen up to j is j itself, if its name passes, and what is chosen up to its parent; which is on the way too
 --   climb_hit, climb_miss   the rank at which what is left falls below p; there is none
---   above_kept, above_or_same_kept   what is kept on the ancestor axis is on the way up from the parent; on the other, from the context
+--   above_kept       what is kept on the ancestor axis is on the way up from the parent
 use Prim.Native.Nat.{ℕ, zero, suc, ◌+◌, ◌-◌, ◌≤◌, ◌<◌}
 use mathlib.Core.Path.{◌≡◌, refl, ap, ◌∙◌, sym, subst}
 use mathlib.Core.List.{List}
@@ -170,7 +170,3 @@ module _ (n : ℕ) (e : Entries) (f : Facts n e) (none : e.fa 0 ≡ 0) (c : ℕ)
   above_kept axis up test p r a u o =
       subst (λ (x : ℕ). Only n (kept x p (chosen x n e.fa e.name test c)) r) (sym a)
       (above_same test p r (subst (λ (x : ℕ). Only n (kept 6 p (chosen 6 n e.fa e.name test x)) r) u o))
-
-pub above_or_same_kept : (n : ℕ) (e : Entries) (axis c test p r : ℕ) → axis ≡ 6 → Only n (kept 6 p (chosen 6 n e.fa e.name test c)) r
-    → Only n (kept axis p (chosen axis n e.fa e.name test c)) r
-above_or_same_kept n e axis c test p r a = subst (λ (x : ℕ). Only n (kept x p (chosen x n e.fa e.name test c)) r) (sym a)

@@ -1,6 +1,5 @@
 -- Which ranks are on an axis, by the ranks where it begins and ends.
 --   same_truth, between_…    two tests that hold together; a rank between two others
---   less_fits, less_is       one less, or 0, as the code has it
 --   on_…                     the axes with every rank of a range
 --   row_child, row_later, row_earlier   the axes of children and of siblings: the ranks of a range that have one parent
 --   before_…, none_before    the search over what precedes a context: the count, the rank at which it comes to p, none
@@ -13,7 +12,7 @@ use lib.Dec.{ltb, leb, eqb}
 use mir.Val.{bool_byte}
 use native.Mathlib.Omega.{arith}
 use native.Mathlib.Decide.{ℕ_discrete}
-use borrow.Author.Tests.{ltb-true, leb-true, eqb-true, eqb-false, lt-ltb, le-leb, eq-eqb, ne_eqb}
+use borrow.Author.Tests.{ltb-true, leb-true, eqb-true, lt-ltb, le-leb, eq-eqb, ne_eqb}
 use Rattle.turns.specs.Truth.{and_left, and_right, and_both}
 use Rattle.trees.specs.Facts.{Each, Inside, Follows, Facts}
 use Rattle.trees.specs.Names.{passes}
@@ -45,21 +44,6 @@ module _ (after last i : ℕ) where
 
   between_high : between after last i ≡ true → i ≤ last
   between_high t = leb-true i last (and_right (ltb after i) (leb i last) t)
-
--- one less, or 0
-pub less_is : (x : ℕ) → x - bool_byte (not (eqb x 0)) ≡ x - 1
-less_is x = go (ℕ_discrete x 0)
-  where
-    go : Dec (x ≡ 0) → x - bool_byte (not (eqb x 0)) ≡ x - 1
-    go (yes z) = ap (λ (b : Bool). x - bool_byte (not b)) (eq-eqb x 0 z) ∙ (let y : x - 0 ≡ x - 1 = omega arith in y)
-    go (no z) = ap (λ (b : Bool). x - bool_byte (not b)) (ne_eqb x 0 z)
-
-pub less_fits : (x : ℕ) → bool_byte (not (eqb x 0)) ≤ x
-less_fits x = go (eqb x 0) refl
-  where
-    go : (b : Bool) → eqb x 0 ≡ b → bool_byte (not b) ≤ x
-    go true e = omega arith
-    go false e = let ne : x ≡ 0 → ⊥ = eqb-false x 0 e in omega arith
 
 -- ---- every rank of a range
 

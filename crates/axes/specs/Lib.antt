@@ -1,2 +1,3 @@
--- Axes: what the search of a row goes by.
+-- Axes: what the search of a row goes by, and what a search finds.
 pub mod Row
+pub mod Kept

@@ -4,118 +4,56 @@
 mod along;
 mod climb;
 
-ghost use Rattle.std.specs.Prelude.{◌≡◌, true, false, ◌≤◌};
-ghost use Rattle.trees.specs.Signature.{entries_of, width, entries};
-ghost use Rattle.xpath.specs.Select.{within};
-ghost use Rattle.xpath.specs.Axes.{chosen, kept, in_answer, answer_of};
-ghost use Rattle.blocks.specs.Checked.{Ready};
-ghost use Rattle.terms.specs.Room.{room_for, Leaves};
-ghost use Rattle.marks.specs.Axis.{axis_within, AxisPromise};
+ghost use Rattle.std.specs.Prelude.{false, ◌≤◌};
+ghost use Rattle.trees.specs.Signature.{entries_of, width};
+ghost use Rattle.xpath.specs.Axes.{in_answer};
+ghost use Rattle.marks.specs.Axis.{axis_number, AxisPromise};
 ghost use Rattle.marks.specs.Marks.{Marks};
-ghost use Rattle.searching.specs.Only.{Only};
+ghost use Rattle.axes.specs.Kept.{Kept};
 
 use along::{find_before, find_row};
-use blocks::{first_past, parent};
-use checking::check_whole;
 use climb::find_above;
-use marks::{is_fine, write_marked};
+use entries::{first_past, parent};
+use marks::{Axis, Request, write_marked};
 use one_pass::axis_without_position;
 use searching::find_named;
-use terms::{Fault, Kind, PreRank, Refusal};
+use terms::Refusal;
 
-// The rank of the element that is kept for one context, or 0, on an axis that is not one of ancestors. Where all ranks of a range are on the axis, only
-// the name is asked for.
-fn find_along(sig: &[u16], n: u16, axis: u16, test: u16, p: u16, c: u16) -> u16
-    requires { Ready sig.now n × (axis ≤ 10) × (1 ≤ p) × (1 ≤ c) × (c ≤ n) × (axis ≡ 5 → ⊥) × (axis ≡ 6 → ⊥) }
-    ensures { Only n (kept axis p (chosen axis n (entries_of width sig.now).fa (entries_of width sig.now).name test c)) result }
+// The rank of the element that is kept for the context c, or 0. Where all ranks of a range are on the axis, only the name is asked for; the ancestors of an
+// element are what is met on the way up from its parent.
+fn find_kept(request: &Request, p: u16, c: u16) -> u16
+    requires { (1 ≤ p) × (1 ≤ c) × (c ≤ request.now.tree.n) }
+    ensures { Kept (axis_number request.now.axis) request.now.tree.sig.now request.now.tree.n request.now.name p c result }
 {
+    let sig = request.tree.sig;
+    let name = request.name;
     let before = c - 1;
-    let up = parent(sig, PreRank(c));
-    let last = first_past(sig, PreRank(c)) - 1;
-    let row = first_past(sig, PreRank(up)) - 1;
-    match axis {
-        0 => find_named(sig, test, p, before, c),
-        1 => find_row(sig, n, c, test, p, c, last),
-        2 => find_named(sig, test, p, c, last),
-        3 => find_named(sig, test, p, before, last),
-        4 => find_named(sig, test, p, up - (up != 0) as u16, up),
-        7 => find_named(sig, test, p, last, n),
-        8 => find_before(sig, n, test, p, c),
-        9 => find_row(sig, n, up, test, p, last, row),
-        _ => find_row(sig, n, up, test, p, up, before),
+    let up = parent(sig, c);
+    let last = first_past(sig, c) - 1;
+    match request.axis {
+        Axis::Itself => find_named(sig, name, p, before, c),
+        Axis::Child => find_row(request, p, c, c, last),
+        Axis::Descendant => find_named(sig, name, p, c, last),
+        Axis::DescendantOrSelf => find_named(sig, name, p, before, last),
+        Axis::Parent => find_named(sig, name, p, up.saturating_sub(1), up),
+        Axis::Ancestor => find_above(request, p, up),
+        Axis::AncestorOrSelf => find_above(request, p, c),
+        Axis::Following => find_named(sig, name, p, last, request.tree.n),
+        Axis::Preceding => find_before(request, p, c),
+        Axis::FollowingSibling => find_row(request, p, up, last, first_past(sig, up) - 1),
+        Axis::PrecedingSibling => find_row(request, p, up, up, before),
     }
 }
 
-// The rank of the element that is kept for one context, or 0. The ancestors of an element are what is met on the way up from its parent.
-fn find_kept(sig: &[u16], n: u16, axis: u16, test: u16, p: u16, c: u16) -> u16
-    requires { Ready sig.now n × (axis ≤ 10) × (1 ≤ p) × (1 ≤ c) × (c ≤ n) }
-    ensures { Only n (kept axis p (chosen axis n (entries_of width sig.now).fa (entries_of width sig.now).name test c)) result }
+// Marks what is kept for one of the contexts, where nothing has a mark. Rank 0 is no element, so that its mark says nothing.
+fn mark_each(request: &Request, p: u16, marks: &mut [bool; 4097])
+    requires { (1 ≤ p) × Marks request.now.tree.n (λ j. false) marks.old }
+    ensures { Marks request.now.tree.n (in_answer (axis_number request.now.axis) request.now.tree.n (entries_of width request.now.tree.sig.now).fa (entries_of width request.now.tree.sig.now).name request.now.name p request.now.contexts.now) marks.new }
 {
-    let up = parent(sig, PreRank(c));
-    match axis {
-        5 => find_above(sig, n, test, p, up),
-        6 => find_above(sig, n, test, p, c),
-        _ => find_along(sig, n, axis, test, p, c),
+    for c in request.contexts {
+        let at = find_kept(request, p, *c) as usize;
+        marks[at] = true;
     }
-}
-
-// Marks what is kept for one of the contexts. Rank 0 is no element, so that its mark says nothing.
-fn mark_each(
-    sig: &[u16],
-    n: u16,
-    contexts: &[u16],
-    axis: u16,
-    test: u16,
-    p: u16,
-    marks: &mut [u8; 4097],
-)
-    requires { Ready sig.now n × (axis ≤ 10) × (1 ≤ p) × (within n contexts.now ≡ true) × Marks n (λ j. false) marks.old }
-    ensures { Marks n (in_answer axis n (entries_of width sig.now).fa (entries_of width sig.now).name test p contexts.now) marks.new }
-{
-    let mut k = 0;
-    while k < contexts.len() {
-        let c = contexts[k];
-        let at = find_kept(sig, n, axis, test, p, c) as usize;
-        marks[at] = 1;
-        k += 1;
-    }
-}
-
-// What an axis call without a refused argument answers and leaves.
-fn select(
-    sig: &[u16],
-    n: u16,
-    contexts: &[u16],
-    axis: u16,
-    test: u16,
-    p: u16,
-    room: &mut [u16],
-) -> Result<usize, Refusal>
-    requires { Ready sig.now n × (axis ≤ 10) × (1 ≤ p) × (within n contexts.now ≡ true) }
-    ensures { Leaves (room_for room.old (answer_of axis n (entries_of width sig.now).fa (entries_of width sig.now).name test p contexts.now)) result room.new }
-{
-    let mut marks = [0u8; 4097];
-    mark_each(sig, n, contexts, axis, test, p, &mut marks);
-    write_marked(n, &marks, room)
-}
-
-// What an axis call answers and leaves once the check has accepted.
-fn axis_within(
-    sig: &[u16],
-    contexts: &[u16],
-    axis: u16,
-    test: u16,
-    p: u16,
-    room: &mut [u16],
-) -> Result<usize, Refusal>
-    requires { Ready sig.now (entries sig.now) × (1 ≤ p) }
-    ensures { Leaves (axis_within sig.now contexts.now axis test p room.old) result room.new }
-{
-    let n = (sig.len() / 4) as u16;
-    if is_fine(n, contexts, axis) {
-        return select(sig, n, contexts, axis, test, p, room);
-    }
-    Err(Fault::BadArgument.into())
 }
 
 // What an axis call with a position answers and leaves.
@@ -130,11 +68,10 @@ fn axis_with_position(
     requires { 1 ≤ position }
     ensures { AxisPromise sig.now contexts.now axis name position room.old result room.new }
 {
-    let verdict = check_whole(Kind::Data, sig);
-    match verdict {
-        Ok(()) => axis_within(sig, contexts, axis, name, position, room),
-        Err(refused) => Err(refused),
-    }
+    let request = Request::judge(sig, contexts, axis, name)?;
+    let mut marks = [false; 4097];
+    mark_each(&request, position, &mut marks);
+    write_marked(request.tree.n, &marks, room)
 }
 
 // The elements on an axis of the contexts, a list of ranks as elements open. Name 0 asks for any name, position 0 for none.

@@ -5,15 +5,15 @@
 --   level_…, place_…  which case of an answer holds
 --   part_…            the part that a place tells
 use Rattle.std.specs.Prelude.{Ok, Err}
-use Prim.Native.Nat.{ℕ, ◌+◌, ◌*◌, ◌≤◌, ◌<◌}
+use Prim.Native.Nat.{ℕ, ◌+◌, ◌*◌, ◌≤◌}
 use native.Mathlib.Omega.{arith}
 use mathlib.Core.Path.{◌≡◌, refl, ap, ◌∙◌, sym, subst}
 use mathlib.Core.List.{List, []}
 use mathlib.Core.Logic.{◌⊎◌, inl, inr, ⊎_elim}
-use mathlib.Core.Bool.{Bool, true, false, ◌&&◌, and-false, false≢true}
+use mathlib.Core.Bool.{Bool, true, false, ◌&&◌, false≢true}
 use lib.ListN.{length, take, drop}
 use lib.Dec.{leb, eqb}
-use borrow.Author.Tests.{le-leb, lt-leb, leb-true}
+use borrow.Author.Tests.{le-leb, leb-true}
 use Rattle.turns.specs.Pick.{pick}
 use Rattle.trees.specs.Tree.{whole}
 use Rattle.trees.specs.Signature.{entries_of, width, entries}
@@ -61,14 +61,6 @@ module _ {A : Type 0} (s : List ℕ) (refuse : ℕ → ℕ → A) (a : A) where
 -- ---- ranks
 
 module _ (n i : ℕ) where
-  pub rank_low : i < 1 → is_rank n i ≡ false
-  unfolding is_rank
-  rank_low h = simp (lt-leb _ _ h)
-
-  pub rank_high : n < i → is_rank n i ≡ false
-  unfolding is_rank
-  rank_high h = simp (lt-leb _ _ h, and-false)
-
   pub rank_yes : 1 ≤ i → i ≤ n → is_rank n i ≡ true
   unfolding is_rank
   rank_yes h g = simp (le-leb _ _ h, le-leb _ _ g)

@@ -9,16 +9,16 @@ use Prim.Native.Nat.{ℕ, ◌+◌, ◌-◌, ◌≤◌, ◌<◌, min}
 use mathlib.Core.Path.{◌≡◌, refl, ap, ◌∙◌, sym}
 use mathlib.Core.Logic.{⊎_elim}
 use mathlib.Core.List.{List}
-use mathlib.Core.Bool.{Bool, true, false, ◌&&◌, ◌||◌, or-true, or-false}
+use mathlib.Core.Bool.{Bool, true, false, ◌||◌}
 use native.Mathlib.Omega.{arith}
 use native.Mathlib.Decide.{ℕ_discrete}
-use lib.ListN.{length, get_or, set, replicate, length-append, length-replicate, get_or-replicate}
+use lib.ListN.{length, set, replicate, length-append, length-replicate, get_or-replicate}
 use lib.Seq.{get_or-set_same, get_or-set_other}
-use lib.Dec.{ltb, leb, eqb}
+use lib.Dec.{ltb, leb}
 use mir.Val.{bool_byte}
 use Rattle.turns.specs.Pick.{pick}
 use Rattle.trees.specs.Order.{lt_or_ge}
-use borrow.Author.Tests.{eq-eqb, ne_eqb, lt-ltb, le-ltb, le-leb, lt-leb}
+use borrow.Author.Tests.{lt-ltb, le-ltb, le-leb, lt-leb}
 use Rattle.xpath.specs.Select.{up_to}
 use Rattle.xpath.specs.SelectLaws.{up_yes, up_no, up_grows, front, front_store}
 use Rattle.marks.specs.Marks.{marked, Marks, lesser}

@@ -5,19 +5,17 @@
 --   handed_up, handed_down                             the marks that are handed to parents
 --   child_is, later_is, earlier_is, parents_are        what those say of the rank
 --   Upward, Downward                                   the marks of a pass, where the ranks before j, or from j on, are done
-use Rattle.std.proofs.Common.{ℕ, ◌+◌, ◌-◌, ◌≤◌, ◌<◌, ◌≡◌, refl, ap, ◌∙◌, sym, subst, List, Bool, true, false, ◌&&◌, ◌||◌, arith, length, get_or, max, min, ltb, leb, eqb}
+use Rattle.std.proofs.Common.{ℕ, ◌+◌, ◌-◌, ◌≤◌, ◌<◌, ◌≡◌, refl, ap, ◌∙◌, sym, subst, List, Bool, true, false, ◌&&◌, ◌||◌, arith, length, max, min, ltb, leb, eqb}
 use Rattle.std.specs.Prelude.{not}
 use Rattle.std.proofs.Math.Logic.{⊎_elim}
 use Rattle.std.proofs.Math.Bool.{or-true, or-false}
 use Rattle.std.proofs.Math.Decide.{ℕ_discrete}
-use Rattle.std.proofs.lemmas.List.{length-set}
 use lib.ListN.{set}
 use lib.Seq.{get_or-set_same, get_or-set_other}
 use borrow.Author.Tests.{lt-ltb, le-ltb, le-leb, lt-leb}
-use Rattle.turns.specs.Pick.{pick}
 use Rattle.trees.specs.Order.{lt_or_ge}
 use Rattle.trees.specs.Signature.{entries_of, width}
-use Rattle.xpath.specs.Spread.{spread_of, Seen, More, more_up, more_down, Greatest, Least, raised_to, lowered_to, raised_greatest, lowered_least, spread_descendant, spread_following, spread_ancestor, spread_preceding, spread_child}
+use Rattle.xpath.specs.Spread.{Seen, More, more_up, more_down, Greatest, Least, raised_to, lowered_to, raised_greatest, lowered_least, spread_descendant, spread_following, spread_ancestor, spread_preceding, spread_child}
 use Rattle.xpath.proofs.SpreadKids.{Kids, kids_hit, kids_miss, spread_parent, spread_later, spread_earlier}
 use Rattle.blocks.specs.Checked.{Ready}
 use Rattle.marks.specs.Marks.{marked, Marks}

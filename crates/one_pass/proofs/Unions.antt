@@ -7,7 +7,7 @@
 use Prim.Native.Nat.{ℕ, ◌≤◌}
 use mathlib.Core.Path.{◌≡◌, refl, ap, ◌∙◌, sym, subst}
 use mathlib.Core.List.{List}
-use mathlib.Core.Bool.{Bool, true, false, ◌&&◌, ◌||◌, and-false, or-true, or-false}
+use mathlib.Core.Bool.{Bool, true, false, ◌&&◌, ◌||◌, or-true, or-false}
 use Rattle.trees.specs.Names.{passes}
 use Rattle.xpath.specs.Select.{up_to, within}
 use Rattle.xpath.specs.SelectLaws.{up_same}

@@ -25,11 +25,12 @@ fn lowered(mark: bool, x: u16, y: u16) -> u16
 pub fn mark_below(tree: &Accepted, from: &[bool; 4097], found: &mut [bool; 4097])
     ensures { Marked tree.now.n (reached 2 tree.now.sig.now tree.now.n from.now) found.old found.new }
 {
+    let sig = tree.sig;
     let mut reach = 0;
     for j in 1..tree.n + 1 {
         let at = j as usize;
         found[at] |= j < reach;
-        reach = raised(from[at], reach, first_past(tree.sig, j));
+        reach = raised(from[at], reach, first_past(sig, j));
     }
 }
 
@@ -37,10 +38,11 @@ pub fn mark_below(tree: &Accepted, from: &[bool; 4097], found: &mut [bool; 4097]
 pub fn mark_following(tree: &Accepted, from: &[bool; 4097], found: &mut [bool; 4097])
     ensures { Marked tree.now.n (reached 7 tree.now.sig.now tree.now.n from.now) found.old found.new }
 {
+    let sig = tree.sig;
     let mut past = u16::MAX;
     for j in 1..tree.n + 1 {
         let at = j as usize;
-        let own = first_past(tree.sig, j);
+        let own = first_past(sig, j);
         found[at] |= past <= j;
         past = lowered(from[at], past, own);
     }
@@ -50,10 +52,11 @@ pub fn mark_following(tree: &Accepted, from: &[bool; 4097], found: &mut [bool; 4
 pub fn mark_above(tree: &Accepted, from: &[bool; 4097], found: &mut [bool; 4097])
     ensures { Marked tree.now.n (reached 5 tree.now.sig.now tree.now.n from.now) found.old found.new }
 {
+    let sig = tree.sig;
     let mut next = u16::MAX;
     for j in (1..tree.n + 1).rev() {
         let at = j as usize;
-        found[at] |= next < first_past(tree.sig, j);
+        found[at] |= next < first_past(sig, j);
         next = lowered(from[at], next, j);
     }
 }
@@ -62,10 +65,11 @@ pub fn mark_above(tree: &Accepted, from: &[bool; 4097], found: &mut [bool; 4097]
 pub fn mark_preceding(tree: &Accepted, from: &[bool; 4097], found: &mut [bool; 4097])
     ensures { Marked tree.now.n (reached 8 tree.now.sig.now tree.now.n from.now) found.old found.new }
 {
+    let sig = tree.sig;
     let mut last = 0;
     for j in (1..tree.n + 1).rev() {
         let at = j as usize;
-        let past = first_past(tree.sig, j);
+        let past = first_past(sig, j);
         found[at] |= past <= last;
         last = raised(from[at], last, j);
     }

@@ -18,8 +18,9 @@ fn is_marked_above(marks: &[bool; 4097], up: u16) -> bool
 pub fn mark_children(tree: &Accepted, from: &[bool; 4097], found: &mut [bool; 4097])
     ensures { Marked tree.now.n (reached 1 tree.now.sig.now tree.now.n from.now) found.old found.new }
 {
+    let sig = tree.sig;
     for j in 1..tree.n + 1 {
-        let up = parent(tree.sig, j);
+        let up = parent(sig, j);
         found[j as usize] |= is_marked_above(from, up);
     }
 }
@@ -29,8 +30,9 @@ pub fn mark_parents(tree: &Accepted, from: &[bool; 4097], found: &mut [bool; 409
     requires { Marks tree.now.n (λ j. false) found.old }
     ensures { Marks tree.now.n (reached 4 tree.now.sig.now tree.now.n from.now) found.new }
 {
+    let sig = tree.sig;
     for j in 1..tree.n + 1 {
-        let up = parent(tree.sig, j);
+        let up = parent(sig, j);
         found[up as usize] |= from[j as usize];
     }
 }
@@ -39,10 +41,11 @@ pub fn mark_parents(tree: &Accepted, from: &[bool; 4097], found: &mut [bool; 409
 pub fn mark_later(tree: &Accepted, from: &[bool; 4097], found: &mut [bool; 4097])
     ensures { Marked tree.now.n (reached 9 tree.now.sig.now tree.now.n from.now) found.old found.new }
 {
+    let sig = tree.sig;
     let mut seen = [false; 4097];
     for j in 1..tree.n + 1 {
         let at = j as usize;
-        let up = parent(tree.sig, j);
+        let up = parent(sig, j);
         found[at] |= is_marked_above(&seen, up);
         seen[up as usize] |= from[at];
     }
@@ -52,10 +55,11 @@ pub fn mark_later(tree: &Accepted, from: &[bool; 4097], found: &mut [bool; 4097]
 pub fn mark_earlier(tree: &Accepted, from: &[bool; 4097], found: &mut [bool; 4097])
     ensures { Marked tree.now.n (reached 10 tree.now.sig.now tree.now.n from.now) found.old found.new }
 {
+    let sig = tree.sig;
     let mut seen = [false; 4097];
     for j in (1..tree.n + 1).rev() {
         let at = j as usize;
-        let up = parent(tree.sig, j);
+        let up = parent(sig, j);
         found[at] |= is_marked_above(&seen, up);
         seen[up as usize] |= from[at];
     }

@@ -70,9 +70,11 @@ fn mark_axis(request: &Request, from: &[bool; 4097], found: &mut [bool; 4097])
 fn keep_named(request: &Request, found: &mut [bool; 4097])
     ensures { Marks request.now.tree.n (λ j. marked found.old j && passes request.now.name ((entries_of width request.now.tree.sig.now).name j)) found.new }
 {
+    let sig = request.tree.sig;
+    let name = request.name;
     for j in 1..request.tree.n + 1 {
         let at = j as usize;
-        found[at] = found[at] && is_named(request.tree.sig, request.name, PreRank(j));
+        found[at] = found[at] && is_named(sig, name, PreRank(j));
     }
 }
 

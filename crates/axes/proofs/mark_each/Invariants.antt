@@ -1,14 +1,12 @@
--- What is kept for the first k contexts has a mark.
-use Prim.Native.Nat.{◌-◌, ◌≤◌}
-use lib.ListN.{length}
+-- What is kept for the contexts so far has a mark.
 use Rattle.trees.specs.Signature.{entries_of, width}
 use Rattle.xpath.specs.Axes.{kept, chosen}
+use Rattle.marks.specs.Axis.{axis_number}
 use Rattle.one_pass.proofs.Contexts.{Each}
 use Rattle.axes.proofs.mark_each.Given as goal
 
-abbrev pub invariant-loop-k : goal.invariant-loop-k
-invariant-loop-k l =
-    (l.k ≤ length l.contexts) × Each l.n (λ x. kept l.axis l.p (chosen l.axis l.n (entries_of width l.sig).fa (entries_of width l.sig).name l.test x)) l.contexts l.k l.marks
-
-abbrev pub decreases-loop-k : goal.decreases-loop-k
-decreases-loop-k l = length l.contexts - l.k
+abbrev pub invariant-loop-c : goal.invariant-loop-c
+invariant-loop-c l =
+    Each l.request.tree.n
+    (λ x. kept (axis_number l.request.axis) l.p (chosen (axis_number l.request.axis) l.request.tree.n (entries_of width l.request.tree.sig.now).fa (entries_of width l.request.tree.sig.now).name l.request.name x))
+    l.request.contexts.now l.c-index l.marks

@@ -1,6 +1,6 @@
 -- The place that block_place tells lies within the numbers, so that the part can be handed out.
-use Rattle.std.proofs.Common.{◌≡◌, ℕ, ◌+◌, ◌-◌, ap, ◌∙◌, drop, take, arith}
-use Rattle.blocks.proofs.Calls.{part_of, part_inside, part_none}
+use Rattle.std.proofs.Common.{◌-◌, arith}
+use Rattle.blocks.proofs.Calls.{part_inside}
 use Rattle.blocks.proofs.block.Goals as goal
 
 pub overflow_add-end : goal.overflow_add-end

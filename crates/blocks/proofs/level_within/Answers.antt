@@ -1,5 +1,5 @@
 -- A rank over n is refused; the level of any other is climbed.
-use Rattle.std.proofs.Common.{sym, ap, ◌∙◌, ◌≡◌, ℕ, true, false, subst}
+use Rattle.std.proofs.Common.{sym, ap, ◌∙◌, ℕ, true, false}
 use Rattle.terms.specs.declared.Refusal.{Refusal}
 use Rattle.trees.specs.Signature.{entries_of, width}
 use Rattle.xpath.specs.Axes.{level_of}

@@ -1,7 +1,6 @@
 -- The axis is judged first, then the contexts.
-use Rattle.std.proofs.Common.{refl, sym, ap, ◌∙◌, ◌≤◌, arith, ℕ}
+use Rattle.std.proofs.Common.{refl, sym, ◌∙◌, ◌≤◌, arith}
 use Rattle.std.proofs.lemmas.Result.{err_from_is_err_and}
-use Rattle.marks.specs.Axis.{axis_number}
 use Rattle.marks.proofs.Calls.{fine_high, fine_low, axis_small}
 use Rattle.marks.proofs.fine_axis.Goals as goal
 

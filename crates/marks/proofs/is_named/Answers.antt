@@ -1,5 +1,5 @@
 -- Name 0 passes whatever the entry's name is.
-use Rattle.std.proofs.Common.{sym, ap, ◌∙◌, ℕ}
+use Rattle.std.proofs.Common.{sym, ◌∙◌}
 use borrow.Author.Tests.{eq-eqb, ne_eqb}
 use Rattle.trees.specs.Names.{passes, passes_any}
 use Rattle.marks.proofs.is_named.Goals as goal

@@ -1,5 +1,5 @@
 -- The whole check comes first, then the arguments.
-use Rattle.std.proofs.Common.{refl, sym, ap, ◌∙◌, ℕ, List}
+use Rattle.std.proofs.Common.{refl}
 use Rattle.std.proofs.lemmas.Result.{err_from_is_err_and}
 use Rattle.blocks.proofs.Calls.{after_refused}
 use Rattle.marks.proofs.Calls.{fine_inverse, judged_left, refused_so}
