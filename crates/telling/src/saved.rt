@@ -1,9 +1,9 @@
 // The states that a caller keeps between two turns, as bare numbers.
-ghost use Rattle.std.specs.Prelude.{◌≡◌, ℕ, List, Bool, true, false, ltb, get_or, length};
+ghost use Rattle.std.specs.Prelude.{◌≡◌, ℕ, List, Bool, false, get_or, length};
 ghost use Rattle.preparing.specs.PrepTurn.{prep_at};
 ghost use Rattle.telling.specs.States.{check_state_of, check_numbers, prepare_numbers, kept_over, TurnSaid};
-ghost use Rattle.telling.specs.Fits.{fit_state_of, fit_numbers};
-ghost use Rattle.telling.specs.Walk.{walk_of, walk_numbers};
+ghost use Rattle.telling.specs.Fits.{fit_state_of, fit_void, fit_numbers};
+ghost use Rattle.telling.specs.Walk.{walk_of, walk_void, walk_numbers};
 ghost use Rattle.telling.specs.Back.{check_numbers_back, prepare_numbers_back, walk_back, fit_back};
 
 use crate::tell_stop;
@@ -115,7 +115,7 @@ impl Saved<3> for Fit {
 
     ghost numbers = { fit_numbers };
 
-    ghost is_void = { λ l. ltb 2 (get_or l 2 0) };
+    ghost is_void = { fit_void };
 
     ghost back = { fit_back };
 
@@ -149,7 +149,7 @@ impl Saved<19> for Walk {
 
     ghost numbers = { walk_numbers };
 
-    ghost is_void = { λ l. ltb 2 (get_or l 18 0) };
+    ghost is_void = { walk_void };
 
     ghost back = { walk_back };
 
