@@ -24,12 +24,18 @@ pub fn write_records(sig: &[u16], room: &mut [u8], out: &mut [u64; 2]) -> u16
 pub fn tags_to_signature(kind: u16, bytes: &[u8], room: &mut [u16], out: &mut [u64; 2]) -> u16
     ensures { TagsNumbers kind bytes.now room.old result room.new out.new }
 {
-    tell(tag_lists::tags_to_signature(Kind::from(kind), bytes, room), out)
+    tell(
+        tag_lists::tags_to_signature(Kind::from(kind), bytes, room),
+        out,
+    )
 }
 
 // A signature back to its tag list. out: bytes written, entry.
 pub fn signature_to_tags(kind: u16, sig: &[u16], room: &mut [u8], out: &mut [u64; 2]) -> u16
     ensures { BackNumbers kind sig.now room.old result room.new out.new }
 {
-    tell(tag_writing::signature_to_tags(Kind::from(kind), sig, room), out)
+    tell(
+        tag_writing::signature_to_tags(Kind::from(kind), sig, room),
+        out,
+    )
 }

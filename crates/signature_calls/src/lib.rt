@@ -49,8 +49,5 @@ pub fn axis(
     ensures { AxisNumbers sig.now contexts.now axis name position room.old result room.new
         out.new }
 {
-    tell(
-        axes::axis(sig, contexts, axis, name, position, room),
-        out,
-    )
+    tell(axes::axis(sig, contexts, axis, name, position, room), out)
 }

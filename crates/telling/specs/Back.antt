@@ -1,9 +1,11 @@
 -- Saved states as numbers, there and back: numbers that stand for a state are that state's.
---   sixteen_whole, sixteen_front   a list of sixteen is its first sixteen; of more numbers, they stand in front
+--   sixteen_whole              a list of sixteen is its first sixteen
 --   nineteen_whole             a list of nineteen is its first sixteen and then three
 --   third_back                 one of three, numbered from 0, is told by its number
 --   check_numbers_back, prepare_numbers_back, walk_numbers_back, fits_numbers_back   what was read is written as the same numbers
---   walk_back, fit_back        the same, where the numbers stand for a state
+--   walk_read, fit_read        what is read where the phase or the stage is at most 2
+--   walk_back, fit_back        the same as numbers back, where the numbers stand for a state
+--   sixteen_set                three numbers set behind sixteen are a walk's last three
 use Rattle.std.specs.Prelude.{ℕ, zero, suc, ◌+◌, ◌≤◌, ◌<◌, ◌≡◌, refl, Bool, true, false, List, [], ◌∷◌, ◌++◌, eqb, ltb, length, get_or, drop, slice_set}
 use Rattle.std.proofs.Common.{ap, ◌∙◌, sym, subst, arith, drop_of_length-le, drop-cons, eqb-true, le-ltb}
 use Rattle.std.proofs.lemmas.Bool.{eqb-false, ltb-false}

@@ -10,9 +10,8 @@ ghost use Rattle.telling.specs.Answers.{LevelSaid, PlaceSaid, StartSaid};
 
 mod saved;
 
-pub use saved::{Saved, tell_turn};
-
 use preparing::Prep;
+pub use saved::{Saved, tell_turn};
 use terms::{Refusal, Stop};
 
 // Puts what stopped a turn, its steps and the entry into out, and gives the refusal's number, or 0.

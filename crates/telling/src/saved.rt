@@ -1,9 +1,9 @@
 // The states that a caller keeps between two turns, as bare numbers.
-ghost use Rattle.std.specs.Prelude.{◌≡◌, ℕ, List, Bool, true, false, ltb, get_or, length};
+ghost use Rattle.std.specs.Prelude.{◌≡◌, ℕ, List, Bool, false, get_or, length};
 ghost use Rattle.preparing.specs.PrepTurn.{prep_at};
 ghost use Rattle.telling.specs.States.{check_state_of, check_numbers, prepare_numbers, kept_over, TurnSaid};
-ghost use Rattle.telling.specs.Fits.{fit_state_of, fit_numbers};
-ghost use Rattle.telling.specs.Walk.{walk_of, walk_numbers};
+ghost use Rattle.telling.specs.Fits.{fit_state_of, fit_void, fit_numbers};
+ghost use Rattle.telling.specs.Walk.{walk_of, walk_void, walk_numbers};
 ghost use Rattle.telling.specs.Back.{check_numbers_back, prepare_numbers_back, walk_back, fit_back};
 
 use crate::tell_stop;
@@ -17,9 +17,13 @@ use walking::Walk;
 
 // A state as N numbers.
 pub trait Saved<const N: usize>: Copy {
-    // The state that these numbers stand for, a state's numbers, and whether these numbers stand for none.
+    // The state that these numbers stand for.
     ghost from_numbers: { List ℕ → Self };
+
+    // A state's numbers.
     ghost numbers: { Self → List ℕ };
+
+    // Whether these numbers stand for no state.
     ghost is_void: { List ℕ → Bool };
 
     // The state that N numbers stand for. It is outside every range where they stand for none.
@@ -30,7 +34,7 @@ pub trait Saved<const N: usize>: Copy {
     fn numbers(self) -> [u16; N]
         ensures { result ≡ numbers self };
 
-    // Whether these numbers stand for no state.
+    // Whether these numbers stand for none.
     fn is_void(given: &[u16; N]) -> bool
         ensures { result ≡ is_void given.now };
 
@@ -53,7 +57,7 @@ pub fn tell_turn<S: Saved<N>, const N: usize>(
     tell_stop(turned.stop, turned.steps, out)
 }
 
-// next, top, closed.
+// The state of the check: next, top, closed.
 impl Saved<3> for CheckState {
     ghost from_numbers = { check_state_of };
 
@@ -80,7 +84,7 @@ impl Saved<3> for CheckState {
     }
 }
 
-// The next entry.
+// The state of preparing: the next entry.
 impl Saved<1> for Prep {
     ghost from_numbers = { λ l. prep_at (get_or l 0 0) };
 
@@ -105,13 +109,13 @@ impl Saved<1> for Prep {
     }
 }
 
-// node, entry, stage. A stage over 2 stands for a question at node 0.
+// The ordered question: node, entry, stage. A stage over 2 stands for a question at node 0, which is outside every range.
 impl Saved<3> for Fit {
     ghost from_numbers = { fit_state_of };
 
     ghost numbers = { fit_numbers };
 
-    ghost is_void = { λ l. ltb 2 (get_or l 2 0) };
+    ghost is_void = { fit_void };
 
     ghost back = { fit_back };
 
@@ -139,13 +143,13 @@ impl Saved<3> for Fit {
     }
 }
 
-// Sixteen images, node, candidate, phase. A phase over 2 stands for a walk at node 0.
+// The walk: sixteen images, node, candidate, phase. A phase over 2 stands for a walk at node 0, which is outside every range.
 impl Saved<19> for Walk {
     ghost from_numbers = { walk_of };
 
     ghost numbers = { walk_numbers };
 
-    ghost is_void = { λ l. ltb 2 (get_or l 18 0) };
+    ghost is_void = { walk_void };
 
     ghost back = { walk_back };
 
