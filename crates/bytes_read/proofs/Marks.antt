@@ -1,6 +1,6 @@
 -- The test of a mark: which way it goes under which facts, and what it then tells.
---   marked_first, marked_second, marked_yes   the three ways
---   marked_is                                 the two bytes of a mark that stands there
+--   marked_first, marked_yes   two of its three ways
+--   marked_is                  the two bytes of a mark that stands there
 use Prim.Native.Nat.{ℕ, ◌+◌}
 use mathlib.Core.Path.{◌≡◌, refl}
 use mathlib.Core.Bool.{Bool, true, false, ◌&&◌}
@@ -15,14 +15,6 @@ module _ (b : List ℕ) (p x y : ℕ) where
   pub marked_first : (get_or b p 0 ≡ x → ⊥) → marked b p x y ≡ false
   unfolding marked
   marked_first h = simp (ne_eqb _ _ h)
-
-  pub marked_second : (get_or b (p + 1) 0 ≡ y → ⊥) → marked b p x y ≡ false
-  unfolding marked
-  marked_second h = go (eqb (get_or b p 0) x)
-    where
-      go : (t : Bool) → (t && eqb (get_or b (p + 1) 0) y) ≡ false
-      go true = ne_eqb _ _ h
-      go false = refl
 
   pub marked_yes : get_or b p 0 ≡ x → get_or b (p + 1) 0 ≡ y → marked b p x y ≡ true
   unfolding marked

@@ -1,25 +1,33 @@
 -- The room: which case of its promise holds, and stores one after the other.
 --   room_refused, room_short, room_written   the three cases
 --   front_sets                               stores from the front on leave the result there, and the rest as it was
+--   put_sets, put_next                       a part that was copied into the room, and the next one
+--   two_bytes                                a number's bytes, low byte first
 use Rattle.std.specs.Prelude.{Ok, Err}
-use Prim.Native.Nat.{ℕ, suc, ◌+◌, ◌≤◌, ◌<◌}
+use Rattle.std.specs.Result.{IsErrAnd}
+use Rattle.std.proofs.lemmas.Result.{err_from_is_err_and}
+use Prim.Native.Nat.{ℕ, suc, ◌+◌, ◌/◌, ◌%◌, ◌≤◌, ◌<◌}
 use mathlib.Core.Path.{◌≡◌, refl, ap, ◌∙◌, sym}
 use mathlib.Core.List.{List, [], ◌∷◌, ◌++◌}
 use native.Mathlib.Omega.{arith}
 use native.Mathlib.Nat.{zero-add}
-use lib.ListN.{length, drop, set, length-append}
-use lib.Seq.{sets, sets-eq, length-sets}
+use lib.ListN.{length, drop, take, set, length-append}
+use lib.Seq.{sets, length-sets, take-length}
+use borrow.Rule.Slice.PartMut.{put_mid}
+use Rattle.std.specs.Int.{w16, to_le_bytes}
+use Rattle.std.proofs.lemmas.List.Edits.{sets-eq}
+use Rattle.std.proofs.lemmas.Slice.{put_mid-paste}
 use borrow.Author.Tests.{eq-eqb, ne_eqb, le-leb, lt-leb}
+use Rattle.terms.specs.Faults.{number_of, refusal_at, some_number}
+use Rattle.terms.specs.declared.Fault.{Fault}
+use Rattle.terms.specs.declared.Refusal.{Refusal}
+use Rattle.bytes_read.specs.Bytes.{low, high}
 use Rattle.terms.specs.Stops.{Answered, answered, worked, refused_as, Written}
 use Rattle.terms.specs.Room.{Left, left_by, room_for, front_with, Leaves}
 
 pub front_sets : (result room : List ℕ) → length result ≤ length room → sets room 0 result ≡ front_with result room
 front_sets result room h =
     sets-eq result room 0 (omega arith) ∙ ap (λ (k : ℕ). result ++ drop k room) (zero-add (length result))
-
--- a refusal by its two numbers
-abbrev pub refused_by : ℕ → ℕ → Written
-refused_by number entry = Err (record { number = number; entry = record { 0 = entry } })
 
 module _ (number entry : ℕ) (result room : List ℕ) where
   pub refused_is : (number ≡ 0 → ⊥) → left_by number entry result room ≡ record { answer = refused_as number entry; room = room }
@@ -54,21 +62,21 @@ module _ (number entry : ℕ) (result room : List ℕ) where
       → Leaves (left_by number entry result room) w after
   room_written w after h l e q = rw q (promised _ w _ (written_is h l) e)
 
--- the same, as a call meets them: f is the fault that its judging pass found
-module _ (number : ℕ) (result room : List ℕ) (w : Written) (f : ℕ) (is : f ≡ number) where
-  pub refused_with : w ≡ refused_by f 0 → (f ≡ 0 → ⊥) → Leaves (left_by number 0 result room) w room
-  refused_with q h =
-      room_refused number 0 result room w room (λ z. h (is ∙ z))
-      (ap answered q ∙ ap (λ (n : ℕ). refused_as n 0) is) refl
+-- the same, as a call meets them: a fault handed on by `?`, a room that is too short, and what was written
+module _ (number : ℕ) (result room : List ℕ) where
+  pub refused_with : (f : Fault) (w : Written) → IsErrAnd w (λ r. r ≡ refusal_at f 0) → number_of f ≡ number → Leaves (left_by number 0 result room) w room
+  refused_with f w e is =
+      let p = err_from_is_err_and w e in
+      room_refused number 0 result room w room (λ z. some_number f (is ∙ z))
+      (ap answered (p.1 ∙ ap Err p.2) ∙ ap (λ (n : ℕ). refused_as n 0) is) refl
 
-  pub short_with : w ≡ refused_by 10 0 → f ≡ 0 → length room < length result → Leaves (left_by number 0 result room) w room
-  short_with q h l = room_short number 0 result room w room (sym is ∙ h) l (ap answered q) refl
+  pub short_with : (r : Refusal) → r ≡ refusal_at Fault.NoRoom 0 → number ≡ 0 → length room < length result
+      → Leaves (left_by number 0 result room) (Err r) room
+  short_with r q h l = room_short number 0 result room (Err r) room h l (ap (λ (x : Refusal). answered (Err x)) q) refl
 
-  pub written_with : (k : ℕ) (after : List ℕ) → w ≡ Ok k → f ≡ 0 → k ≡ length result → length result ≤ length room
-      → after ≡ front_with result room → Leaves (left_by number 0 result room) w after
-  written_with k after q h e l r =
-      room_written number 0 result room w after (sym is ∙ h) l
-      (ap answered q ∙ ap (λ (n : ℕ). worked n) e) r
+  pub written_with : (k : ℕ) (after : List ℕ) → number ≡ 0 → k ≡ length result → length result ≤ length room
+      → after ≡ front_with result room → Leaves (left_by number 0 result room) (Ok k) after
+  written_with k after h e l r = room_written number 0 result room (Ok k) after h l (ap (λ (n : ℕ). worked n) e) r
 
 -- ---- stores
 
@@ -101,31 +109,20 @@ module _ (room₀ all : List ℕ) where
       → room ≡ front_with all room₀
   storing_end room p left s q h = sym (ap (sets room p) q) ∙ s.same ∙ front_sets all room₀ h
 
-pub sets_two : (room : List ℕ) (i a b : ℕ) → set (set room i a) (i + 1) b ≡ sets room i (a ∷ b ∷ [])
-sets_two room i a b = let p : i + 1 ≡ suc i = omega arith in cc
+-- a part of the room from place i on was written, by the library's copy
+pub put_sets : (room : List ℕ) (i j k : ℕ) (xs ys : List ℕ) → j ≡ i → ys ≡ xs → k ≡ length xs → i + length xs ≤ length room
+    → put_mid j k room ys ≡ sets room i xs
+put_sets room i j k xs ys p e q h =
+    ap (λ (m : ℕ). put_mid m k room ys) p ∙ put_mid-paste i k room ys xs (length xs) e (sym q) refl
+    ∙ ap (λ (l : List ℕ). take i room ++ l ++ drop (i + length xs) room) (take-length xs) ∙ sym (sets-eq xs room i h)
 
-pub sets_four : (room : List ℕ) (i a b c d : ℕ)
-    → set (set (set (set room i a) (i + 1) b) (i + 2) c) (i + 3) d ≡ sets room i (a ∷ b ∷ c ∷ d ∷ [])
-sets_four room i a b c d =
-    let p : i + 1 ≡ suc i = omega arith in
-    let q : i + 2 ≡ suc (suc i) = omega arith in
-    let r : i + 3 ≡ suc (suc (suc i)) = omega arith in
-    cc
+-- and the part right after those that were written from place i on
+pub put_next : (room to : List ℕ) (i j k : ℕ) (xs ys zs : List ℕ) → to ≡ sets room i xs → ys ≡ zs → k ≡ length zs → j ≡ i + length xs
+    → i + length xs + length zs ≤ length room → put_mid j k to ys ≡ sets room i (xs ++ zs)
+put_next room to i j k xs ys zs t e q p h =
+    put_sets to (i + length xs) j k zs ys p e q (omega (arith, ap length t, length-sets room i xs))
+    ∙ ap (λ (r : List ℕ). sets r (i + length xs) zs) t ∙ sym (sets_append room i xs zs)
 
-pub sets_ten : (room : List ℕ) (i a b c d e f g h j k : ℕ)
-    → set (set (set (set (set (set (set (set (set (set room i a) (i + 1) b) (i + 2) c) (i + 3) d) (i + 4) e) (i + 5) f) (i + 6) g) (i + 7) h) (i + 8) j) (i + 9) k
-    ≡ sets room i (a ∷ b ∷ c ∷ d ∷ e ∷ f ∷ g ∷ h ∷ j ∷ k ∷ [])
-sets_ten room i a b c d e f g h j k =
-    ap (λ (r : List ℕ). set (set (set (set (set (set r (i + 4) e) (i + 5) f) (i + 6) g) (i + 7) h) (i + 8) j) (i + 9) k) (sets_four room i a b c d)
-    ∙ upper (sets room i (a ∷ b ∷ c ∷ d ∷ []))
-  where
-    upper : (r : List ℕ) → set (set (set (set (set (set r (i + 4) e) (i + 5) f) (i + 6) g) (i + 7) h) (i + 8) j) (i + 9) k
-        ≡ sets r (suc (suc (suc (suc i)))) (e ∷ f ∷ g ∷ h ∷ j ∷ k ∷ [])
-    upper r =
-        let p : i + 4 ≡ suc (suc (suc (suc i))) = omega arith in
-        let q : i + 5 ≡ suc (suc (suc (suc (suc i)))) = omega arith in
-        let t : i + 6 ≡ suc (suc (suc (suc (suc (suc i))))) = omega arith in
-        let u : i + 7 ≡ suc (suc (suc (suc (suc (suc (suc i)))))) = omega arith in
-        let v : i + 8 ≡ suc (suc (suc (suc (suc (suc (suc (suc i))))))) = omega arith in
-        let w : i + 9 ≡ suc (suc (suc (suc (suc (suc (suc (suc (suc i)))))))) = omega arith in
-        cc
+-- the two bytes of a number of 16 bits
+pub two_bytes : (v : ℕ) → v < 65536 → to_le_bytes w16 v ≡ low v ∷ high v ∷ []
+two_bytes v h = let e : v / 256 % 256 ≡ v / 256 = omega arith in ap (λ (x : ℕ). low v ∷ x ∷ []) e

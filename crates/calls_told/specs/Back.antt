@@ -1,83 +1,46 @@
--- The saved states of the C interface as bare numbers, there and back.
+-- The saved states of the C interface as bare numbers, there and back. That what was read is written as the same numbers stands in Back of telling.
 --   check_back, prepare_back, walk_back_law, fits_back   the numbers that a state is written as are read as that state
---   check_numbers_back, prepare_numbers_back, walk_numbers_back, fits_numbers_back   what was read is written as the same numbers
---   sixteen_whole, walk_read   a list of sixteen numbers, and what is read where the phase is at most 2
 --   full                 a walk that was read has sixteen images
 --   Saved, walk_saved, fit_saved   what walk and question have in common: numbers whose last one is over 2 stand for no state, and are left
 --   kept_read, kept_same, kept_again   what a turn left is read as what it handed back, or is what was given; calls one after the other keep the same
 --   one_check_said, one_prepare_said, one_walk_said, one_fit_said   two results that telling a turn allows are equal
 --   ten_back, five_back, five_numbers_back, ten_fits_back, ten_question_back   used once: the check of Ten, a walk on Five, a question at yes on Ten
-use Rattle.std.specs.Prelude.{ℕ, zero, suc, ◌+◌, ◌≤◌, ◌<◌, ◌≡◌, refl, Bool, true, false, List, [], ◌∷◌, eqb, ltb, length, get_or, drop, replicate}
-use Rattle.std.proofs.Common.{ap, ◌∙◌, sym, arith, drop_of_length-le, drop-cons, eqb-true, le-ltb}
+use Rattle.std.specs.Prelude.{ℕ, ◌≤◌, ◌<◌, ◌≡◌, refl, Bool, true, false, List, [], ◌∷◌, ltb, length, get_or, replicate}
+use Rattle.std.proofs.Common.{ap, ◌∙◌, sym, arith}
 use Rattle.std.proofs.Math.Decide.{dec_le}
-use Rattle.std.proofs.lemmas.Bool.{eqb-false}
 use Rattle.turns.specs.Pick.{pick}
+use Rattle.terms.specs.declared.Turn.{Turn}
 use Rattle.checking.specs.declared.CheckState.{CheckState}
 use Rattle.preparing.specs.declared.Prep.{Prep}
 use Rattle.preparing.specs.PrepTurn.{prep_at}
 use Rattle.walk_ranges.specs.declared.Phase.{Phase}
+use Rattle.walk_ranges.specs.Phases.{phase_number}
 use Rattle.walking.specs.declared.Walk.{Walk}
 use Rattle.walking.specs.Walking as walking
-use Rattle.telling.specs.States.{check_state_of, check_numbers, prepare_numbers, CheckSaid, PrepareSaid}
-use Rattle.telling.specs.Once.{one_said}
 use Rattle.fits_rows.specs.declared.Stage.{Stage}
+use Rattle.fits_rows.specs.Stages.{stage_number}
 use Rattle.fits.specs.declared.Fit.{Fit}
-use Rattle.fits.specs.Stages.{stage_number}
 use Rattle.fits.specs.FitTurn.{fit_at}
-use Rattle.walk_numbers.specs.Walk as walks
-use Rattle.walk_numbers.specs.Walk.{phase_of, phase_number, sixteen, outside, walk_of, walk_numbers, WalkSaid}
-use Rattle.walk_numbers.proofs.Laws.{walk_outside, kept_given, kept_walk}
-use Rattle.calls_fits.specs.Fits as fits
-use Rattle.calls_fits.specs.Fits.{stage_of, fit_state_of, fit_numbers, FitSaid}
-use Rattle.calls_fits.proofs.Laws as fit
-use Rattle.calls_fits.proofs.Laws.{fit_outside, fit_inside, kept_fit}
-use Rattle.terms.specs.declared.Turn.{Turn}
-
--- ---- numbers of a list from a place on
-
--- k numbers from place i on
-abbrev rising : List ℕ → ℕ → ℕ → List ℕ
-rising l i zero = []
-rising l i (suc k) = get_or l i 0 ∷ rising l (suc i) k
-
-rising_drop : (l : List ℕ) (i k : ℕ) → length l ≡ i + k → rising l i k ≡ drop i l
-rising_drop l i zero h = sym (drop_of_length-le l {i = i} (omega arith))
-rising_drop l i (suc k) h =
-    ap (λ (x : List ℕ). get_or l i 0 ∷ x) (rising_drop l (suc i) k (omega arith)) ∙ sym (drop-cons l i 0 (omega arith))
-
--- a list of sixteen is its first sixteen
-pub sixteen_whole : (l : List ℕ) → length l ≡ 16 → sixteen l [] ≡ l
-sixteen_whole l h = rising_drop l 0 16 h
-
--- a list of nineteen is its first sixteen and then three
-nineteen_whole : (l : List ℕ) → length l ≡ 19 → sixteen l (get_or l 16 0 ∷ get_or l 17 0 ∷ get_or l 18 0 ∷ []) ≡ l
-nineteen_whole l h = rising_drop l 0 19 h
-
--- one of three, numbered from 0, is told by its number
-third_back : {A : Type 0} (number : A → ℕ) (x y z : A) → number x ≡ 0 → number y ≡ 1 → number z ≡ 2 → (k : ℕ) → k ≤ 2
-    → number (pick (eqb k 0) x (pick (eqb k 1) y z)) ≡ k
-third_back number x y z p q r k l = by (eqb k 0) (eqb k 1) refl refl
-  where
-    by : (a b : Bool) → eqb k 0 ≡ a → eqb k 1 ≡ b → number (pick a x (pick b y z)) ≡ k
-    by true b e f = p ∙ sym (eqb-true k 0 e)
-    by false true e f = q ∙ sym (eqb-true k 1 f)
-    by false false e f = omega (arith, r, eqb-false k 0 e, eqb-false k 1 f)
+use Rattle.telling.specs.States.{check_state_of, check_numbers, prepare_numbers, CheckSaid, PrepareSaid}
+use Rattle.telling.specs.Once.{one_turn_said}
+use Rattle.telling.specs.Back.{sixteen_whole, check_numbers_back, walk_numbers_back, fits_numbers_back}
+use Rattle.telling.specs.Walk as walks
+use Rattle.telling.specs.Walk.{phase_of, sixteen, outside, walk_of, walk_numbers, WalkSaid}
+use Rattle.telling.proofs.WalkLaws.{walk_outside, kept_given, kept_walk}
+use Rattle.telling.specs.Fits as fits
+use Rattle.telling.specs.Fits.{fit_state_of, fit_numbers, FitSaid}
+use Rattle.telling.proofs.FitLaws as fit
+use Rattle.telling.proofs.FitLaws.{fit_outside, kept_fit}
 
 -- ---- the check
 
 pub check_back : (st : CheckState) → check_state_of (check_numbers st) ≡ st
 check_back st = refl
 
-pub check_numbers_back : (l : List ℕ) → length l ≡ 3 → check_numbers (check_state_of l) ≡ l
-check_numbers_back l h = rising_drop l 0 3 h
-
 -- ---- preparing
 
 pub prepare_back : (st : Prep) → prep_at (get_or (prepare_numbers st) 0 0) ≡ st
 prepare_back st = refl
-
-pub prepare_numbers_back : (l : List ℕ) → length l ≡ 1 → prepare_numbers (prep_at (get_or l 0 0)) ≡ l
-prepare_numbers_back l h = rising_drop l 0 1 h
 
 -- ---- the walk
 
@@ -88,19 +51,6 @@ walk_back_law w h = by w.phase
     by Phase.Walking = ap (λ (l : List ℕ). walking.at l w.node w.candidate.0 Phase.Walking) (sixteen_whole w.images h)
     by Phase.Answer = ap (λ (l : List ℕ). walking.at l w.node w.candidate.0 Phase.Answer) (sixteen_whole w.images h)
     by Phase.Ended = ap (λ (l : List ℕ). walking.at l w.node w.candidate.0 Phase.Ended) (sixteen_whole w.images h)
-
-phase_back : (k : ℕ) → k ≤ 2 → phase_number (phase_of k) ≡ k
-phase_back k l = third_back phase_number Phase.Walking Phase.Answer Phase.Ended refl refl refl k l
-
--- a phase of at most 2 stands for a walk
-pub walk_read : (l : List ℕ) → get_or l 18 0 ≤ 2 → walk_of l ≡ walking.at (sixteen l []) (get_or l 16 0) (get_or l 17 0) (phase_of (get_or l 18 0))
-walk_read l p = simp (le-ltb 2 (get_or l 18 0) p)
-
-pub walk_numbers_back : (l : List ℕ) → length l ≡ 19 → get_or l 18 0 ≤ 2 → walk_numbers (walk_of l) ≡ l
-walk_numbers_back l h p =
-    ap walk_numbers (walk_read l p)
-    ∙ ap (λ (x : ℕ). sixteen l (get_or l 16 0 ∷ get_or l 17 0 ∷ x ∷ [])) (phase_back (get_or l 18 0) p)
-    ∙ nineteen_whole l h
 
 -- that a walk has sixteen images is its type; here it follows from how it is read
 pub full : (l : List ℕ) → length (walk_of l).images ≡ 16
@@ -119,12 +69,6 @@ fits_back st = by st.stage
     by Stage.Asking = refl
     by Stage.Yes = refl
     by Stage.No = refl
-
-pub fits_numbers_back : (l : List ℕ) → length l ≡ 3 → get_or l 2 0 ≤ 2 → fit_numbers (fit_state_of l) ≡ l
-fits_numbers_back l h p =
-    ap fit_numbers (fit_inside l (stage_of (get_or l 2 0)) p refl)
-    ∙ ap (λ (x : ℕ). get_or l 0 0 ∷ get_or l 1 0 ∷ x ∷ []) (third_back stage_number Stage.Asking Stage.Yes Stage.No refl refl refl (get_or l 2 0) p)
-    ∙ rising_drop l 0 3 h
 
 -- ---- numbers whose last one is over 2
 
@@ -183,19 +127,19 @@ module _ {S : Type 0} {i : ℕ} {nowhere : S} {read : List ℕ → S} {numbers :
 
 pub one_check_said : (t : Turn CheckState) (r q : ℕ) (left later o p : List ℕ) → CheckSaid t r left o → CheckSaid t q later p
     → ((r ≡ q) × (o ≡ p)) × (left ≡ later)
-one_check_said t r q left later o p a b = (one_said _ _ r q o p a.says b.says, a.state ∙ sym b.state)
+one_check_said t r q left later o p a b = one_turn_said check_numbers t r q left later o p a b
 
 pub one_prepare_said : (t : Turn Prep) (r q : ℕ) (left later o p : List ℕ) → PrepareSaid t r left o → PrepareSaid t q later p
     → ((r ≡ q) × (o ≡ p)) × (left ≡ later)
-one_prepare_said t r q left later o p a b = (one_said _ _ r q o p a.says b.says, a.state ∙ sym b.state)
+one_prepare_said t r q left later o p a b = one_turn_said prepare_numbers t r q left later o p a b
 
 pub one_walk_said : (l : List ℕ) (t : Turn Walk) (r q : ℕ) (left later o p : List ℕ) → WalkSaid l t r left o → WalkSaid l t q later p
     → ((r ≡ q) × (o ≡ p)) × (left ≡ later)
-one_walk_said l t r q left later o p a b = (one_said _ _ r q o p a.says b.says, a.state ∙ sym b.state)
+one_walk_said l t r q left later o p a b = one_turn_said (walks.kept_of l) t r q left later o p a b
 
 pub one_fit_said : (l : List ℕ) (t : Turn Fit) (r q : ℕ) (left later o p : List ℕ) → FitSaid l t r left o → FitSaid l t q later p
     → ((r ≡ q) × (o ≡ p)) × (left ≡ later)
-one_fit_said l t r q left later o p a b = (one_said _ _ r q o p a.says b.says, a.state ∙ sym b.state)
+one_fit_said l t r q left later o p a b = one_turn_said (fits.kept_of l) t r q left later o p a b
 
 -- ---- used once
 

@@ -17,7 +17,7 @@ use Rattle.trees.specs.Signature.{cell, entries_of, width, entries}
 use Rattle.terms.specs.declared.Kind.{Kind}
 use Rattle.checking.specs.declared.CheckState.{CheckState}
 use Rattle.terms.specs.declared.Stop.{Stop}
-use Rattle.terms.specs.Kinds.{any_name}
+use Rattle.terms.specs.Kinds.{any_name, kind_of}
 use Rattle.checking.specs.Rule.{fresh, step_of, close_of, accepted, nameless, second_root, in_range}
 use Rattle.checking.specs.Turn.{TurnPromise, turn_of, turn_within}
 use Rattle.terms.specs.Length.{length_fault}
@@ -29,10 +29,10 @@ use Rattle.checked.specs.Public.{step_as_written}
 use Rattle.checked.specs.Wholly.{handed, handed_is, accepted_exactly, check_two_n, yields_accepted}
 use Rattle.checked.specs.ShutOut.{small, small_words}
 use Rattle.checked.specs.Menus.{ten}
-use Rattle.telling.specs.Numbers.{kind_of, out_of, TurnTold}
+use Rattle.telling.specs.Numbers.{out_of, TurnTold}
 use Rattle.telling.specs.States.{check_state_of, check_numbers, CheckSaid}
 use Rattle.signature_calls.specs.Check.{CheckTurnPromise}
-use Rattle.calls_told.specs.Back.{check_numbers_back}
+use Rattle.telling.specs.Back.{check_numbers_back}
 use Rattle.calls_told.specs.Chains.{Called, stop_number, steps, reason_end, no_steps, chain_ran}
 use Rattle.terms.specs.declared.Turn.{Turn}
 

@@ -26,10 +26,11 @@ use Rattle.fits_laws.specs.Public.{shown, back_of, back_handed}
 use Rattle.loose_turns.specs.Prepared as prepared
 use Rattle.loose_turns.specs.Walked as walked
 use Rattle.listed.specs.Cases.{prep_back, prep_handed, walk_back, walk_handed}
-use Rattle.telling.specs.Numbers.{kind_of, out_of, TurnTold}
+use Rattle.terms.specs.Kinds.{kind_of}
+use Rattle.telling.specs.Numbers.{out_of, TurnTold}
 use Rattle.telling.specs.States.{check_state_of, check_numbers}
-use Rattle.walk_numbers.specs.Walk.{walk_of, kept_of}
-use Rattle.calls_fits.specs.Fits.{fit_state_of, kept_of as kept_fit}
+use Rattle.telling.specs.Walk.{walk_of, kept_of}
+use Rattle.telling.specs.Fits.{fit_state_of, kept_of as kept_fit}
 use Rattle.signature_calls.specs.Check.{CheckLeft, CheckTurnPromise}
 use Rattle.twig_calls.specs.Fits.{FitLeft}
 use Rattle.twig_calls.specs.Prepare.{PrepareLeft}

@@ -19,7 +19,7 @@ use Rattle.twig_turns.specs.Grounds.{Accepted}
 use Rattle.walking.specs.Walking.{fresh}
 use Rattle.listed.specs.Questions.{Prepared, OnTheWay, start, handed}
 use Rattle.listed.specs.Exactly.{all_loose, AllOf, loose_exactly, end_steps_once, walk_within_law}
-use Rattle.walk_numbers.specs.Walk.{walk_of}
+use Rattle.telling.specs.Walk.{walk_of}
 use Rattle.twig_calls.specs.Walk.{WalkFreshPromise}
 use Rattle.calls_told.specs.Chains.{Called, stop_number, reason_end}
 use Rattle.calls_told.specs.Checks.{CheckCalls, numbers_accepted}

@@ -20,7 +20,7 @@ use Rattle.records.specs.Records.{read_left, write_left, record_fault, records_e
 use Rattle.tag_scan.specs.TagLists.{tag_bytes, closed_with, nameless_at, misnested, tag_fault, tag_next, tree_end, tags_from}
 use Rattle.tag_lists.specs.Readers.{tags_left}
 use Rattle.tag_writing.specs.TagsBack.{row_from, back_bytes, back_left}
-use Rattle.telling.specs.Numbers.{kind_of}
+use Rattle.terms.specs.Kinds.{kind_of}
 use Rattle.calls_told.specs.Numbered.{ZeroAnswer, by_check, refused_zero, left_zero, left_returns}
 use Rattle.record_calls.specs.Records.{ReadNumbers, WriteNumbers, TagsNumbers, BackNumbers}
 

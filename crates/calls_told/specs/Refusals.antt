@@ -14,7 +14,7 @@ use Rattle.std.proofs.Math.Bool.{true, false}
 use Rattle.turns.specs.Pick.{pick}
 use Rattle.trees.specs.Signature.{entries_of, width, entries}
 use Rattle.terms.specs.declared.Kind.{Kind}
-use Rattle.terms.specs.Kinds.{any_name, most}
+use Rattle.terms.specs.Kinds.{any_name, most, kind_of}
 use Rattle.terms.specs.Room.{Left, written_left, refused_left, room_for, left_by}
 use Rattle.terms.specs.Stops.{halt_told}
 use Rattle.checking.specs.Turn.{turn_of}
@@ -44,10 +44,9 @@ use Rattle.retold.specs.Numbers as contents
 use Rattle.retold.specs.Numbers.{record_refusals, write_refusals, tag_refusals}
 use Rattle.loose_turns.specs.Refusals as turns
 use Rattle.twig_turns.specs.Refusals.{turn_refusals}
-use Rattle.telling.specs.Numbers.{kind_of}
 use Rattle.telling.specs.States.{check_state_of}
-use Rattle.walk_numbers.specs.Walk.{walk_of}
-use Rattle.calls_fits.specs.Fits.{fit_state_of}
+use Rattle.telling.specs.Walk.{walk_of}
+use Rattle.telling.specs.Fits.{fit_state_of}
 use Rattle.record_calls.specs.Records.{ReadNumbers, WriteNumbers, TagsNumbers, BackNumbers}
 use Rattle.signature_calls.specs.Check.{CheckTurnPromise}
 use Rattle.signature_calls.specs.Axes.{LevelNumbers, PlaceNumbers, AxisNumbers}

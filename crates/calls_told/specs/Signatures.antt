@@ -26,7 +26,7 @@ use Rattle.blocks.specs.Checked.{after_check, is_rank}
 use Rattle.blocks.specs.Level.{Leveled, level_worked, level_refused, level_within, level_answer}
 use Rattle.blocks.specs.Block.{Placed, block_place, place_refused, place_within, place_answer}
 use Rattle.marks.specs.Axis.{arguments_fine, answer_in, axis_within, axis_answer}
-use Rattle.telling.specs.Numbers.{kind_of}
+use Rattle.terms.specs.Kinds.{kind_of}
 use Rattle.telling.specs.States.{check_state_of}
 use Rattle.calls_told.specs.Numbered.{ZeroAnswer, halt_zero, check_numbered, by_check, refused_zero, room_zero, left_returns, turn_returns, stop_first}
 use Rattle.signature_calls.specs.Check.{CheckTurnPromise}

@@ -10,7 +10,7 @@ use Rattle.std.proofs.lemmas.Bool.{eqb-false}
 use Rattle.turns.specs.Pick.{pick}
 use Rattle.trees.specs.Signature.{entries}
 use Rattle.terms.specs.declared.Kind.{Kind}
-use Rattle.terms.specs.Kinds.{any_name, most}
+use Rattle.terms.specs.Kinds.{any_name, most, kind_of}
 use Rattle.terms.specs.Room.{written_left, refused_left, room_for, left_by}
 use Rattle.checking.specs.Whole.{whole_of}
 use Rattle.checked.specs.Refusals.{one_not, whole_not_ten}
@@ -31,9 +31,8 @@ use Rattle.fits_laws.specs.Refusals.{fit_ten}
 use Rattle.loose_turns.specs.Refusals as loose
 use Rattle.loose_turns.specs.Refusals.{TableTen}
 use Rattle.axes_told.specs.Tens as axes
-use Rattle.telling.specs.Numbers.{kind_of}
-use Rattle.walk_numbers.specs.Walk.{walk_of}
-use Rattle.calls_fits.specs.Fits.{fit_state_of}
+use Rattle.telling.specs.Walk.{walk_of}
+use Rattle.telling.specs.Fits.{fit_state_of}
 use Rattle.record_calls.specs.Records.{ReadNumbers, WriteNumbers, TagsNumbers, BackNumbers}
 use Rattle.signature_calls.specs.Axes.{AxisNumbers}
 use Rattle.twig_calls.specs.Fits.{FitsTurnPromise}

@@ -41,7 +41,7 @@ use Rattle.listed.specs.Exactly.{all_loose}
 use Rattle.listed.specs.Cases.{five_table, lent_for, cleared_for}
 use Rattle.listed.specs.Worked.{six_answers}
 use Rattle.telling.specs.States.{check_state_of}
-use Rattle.walk_numbers.specs.Walk.{walk_numbers}
+use Rattle.telling.specs.Walk.{walk_numbers}
 use Rattle.signature_calls.specs.Check.{CheckTurnPromise}
 use Rattle.twig_calls.specs.Prepare.{StartNumbers, PrepareTurnPromise}
 use Rattle.twig_calls.specs.Walk.{WalkFreshPromise, WalkTurnPromise}

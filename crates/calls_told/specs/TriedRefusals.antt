@@ -36,7 +36,7 @@ use Rattle.fits_rows.specs.Fitting.{place_fits}
 use Rattle.fits.specs.FitTurn.{fit_fits}
 use Rattle.walking.specs.Walking.{fresh, in_range}
 use Rattle.walking.specs.WalkTurn.{walk_fits}
-use Rattle.walk_numbers.specs.Walk.{walk_of, walk_numbers}
+use Rattle.telling.specs.Walk.{walk_of, walk_numbers}
 use Rattle.record_calls.specs.Records.{ReadNumbers, WriteNumbers, TagsNumbers, BackNumbers}
 use Rattle.signature_calls.specs.Check.{CheckTurnPromise}
 use Rattle.signature_calls.specs.Axes.{LevelNumbers, PlaceNumbers, AxisNumbers}

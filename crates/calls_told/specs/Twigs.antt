@@ -46,8 +46,8 @@ use Rattle.walking.specs.Walking.{fresh, ended, bad_end, end_of, back, found, re
 use Rattle.walking.specs.Walking.{in_range as walk_range}
 use Rattle.walking.specs.WalkTurn.{walk_fits, walk_run, walk_turn_of}
 use Rattle.calls_told.specs.Numbered.{ZeroAnswer, Numbered, NumberedStep, some_number, halt_zero, turn_numbered, begun_numbered, shown_holds, by_check, refused_zero, room_zero, left_returns, turn_returns, stop_first}
-use Rattle.walk_numbers.specs.Walk.{walk_of, walk_numbers}
-use Rattle.calls_fits.specs.Fits.{fit_state_of}
+use Rattle.telling.specs.Walk.{walk_of, walk_numbers}
+use Rattle.telling.specs.Fits.{fit_state_of}
 use Rattle.twig_calls.specs.Fits.{FitsTurnPromise}
 use Rattle.twig_calls.specs.Ordered.{OrderedNumbers}
 use Rattle.twig_calls.specs.Prepare.{StartNumbers, PrepareTurnPromise}

@@ -38,10 +38,12 @@ use Rattle.listed.specs.Questions as questions
 use Rattle.listed.specs.Questions.{WalkTurns, tell_of}
 use Rattle.listed.specs.Cases.{walk_back, walk_handed}
 use Rattle.telling.specs.Numbers.{TurnTold}
-use Rattle.walk_numbers.specs.Walk.{sixteen, outside, phase_number, walk_of, walk_numbers, kept_of}
-use Rattle.walk_numbers.proofs.Laws.{walk_outside, kept_walk}
+use Rattle.walk_ranges.specs.Phases.{phase_number}
+use Rattle.telling.specs.Walk.{sixteen, outside, walk_of, walk_numbers, kept_of}
+use Rattle.telling.proofs.WalkLaws.{walk_outside, kept_walk}
 use Rattle.twig_calls.specs.Walk.{WalkTurnPromise}
-use Rattle.calls_told.specs.Back.{sixteen_whole, walk_back_law, walk_numbers_back, full, walk_saved, kept_read, kept_same}
+use Rattle.telling.specs.Back.{sixteen_whole, walk_numbers_back}
+use Rattle.calls_told.specs.Back.{walk_back_law, full, walk_saved, kept_read, kept_same}
 use Rattle.calls_told.specs.Chains.{Called, stop_number, steps, reason_budget, no_steps, chain_ran}
 use Rattle.terms.specs.declared.Turn.{Turn}
 

@@ -8,7 +8,6 @@ use Rattle.std.proofs.Common.{ap, ◌∙◌, sym, arith}
 use Rattle.turns.specs.Turn.{Halt, Turned}
 use Rattle.terms.specs.declared.Stop.{Stop}
 use Rattle.terms.specs.declared.Refusal.{Refusal}
-use Rattle.checking.specs.declared.CheckState.{CheckState}
 use Rattle.terms.specs.Stops.{Told, told, halt_told, verdict_told, Answered, answered, Verdict, Written, Handed}
 use Rattle.terms.specs.declared.Turn.{Turn}
 
@@ -80,10 +79,10 @@ halt_told_law g h q =
     sym (halt_stop g) ∙ ap halt_of (told_apart (stop_of g) (stop_of h) (told_stop g ∙ q ∙ sym (told_stop h))) ∙ halt_stop h
 
 -- what the code hands back, as a turn
-abbrev pub turned_of : Turn CheckState → Turned CheckState
+abbrev pub turned_of : {S : Type 0} → Turn S → Turned S
 turned_of r = record { state = r.state; steps = r.steps; halt = halt_of r.stop }
 
-pub handed_turned : (r : Turn CheckState) (t : Turned CheckState) → Handed r t → turned_of r ≡ t
+pub handed_turned : {S : Type 0} (r : Turn S) (t : Turned S) → Handed r t → turned_of r ≡ t
 handed_turned r t h =
     let x = h.state in
     let y = h.steps in
@@ -91,9 +90,9 @@ handed_turned r t h =
     λ i. record { state = x i; steps = y i; halt = z i }
 
 pub verdict_apart : (a b : Verdict) → verdict_told a ≡ verdict_told b → a ≡ b
-verdict_apart (Ok tt) (Ok tt) q = refl
-verdict_apart (Ok tt) (Err b) q = let z : ◌≡◌ {A = ℕ} 1 3 = reason_of q in absurd (omega arith)
-verdict_apart (Err a) (Ok tt) q = let z : ◌≡◌ {A = ℕ} 3 1 = reason_of q in absurd (omega arith)
+verdict_apart (Ok _) (Ok _) q = refl
+verdict_apart (Ok _) (Err b) q = let z : ◌≡◌ {A = ℕ} 1 3 = reason_of q in absurd (omega arith)
+verdict_apart (Err a) (Ok _) q = let z : ◌≡◌ {A = ℕ} 3 1 = reason_of q in absurd (omega arith)
 verdict_apart (Err a) (Err b) q = ap (λ (r : Refusal). Err r) (refused_same a b q)
 
 pub answered_apart : (a b : Written) → answered a ≡ answered b → a ≡ b
@@ -104,7 +103,7 @@ answered_apart (Err a) (Err b) q =
     ap (λ (r : Refusal). Err r) (refusal_same a b (ap (λ (t : Answered). t.number) q) (ap (λ (t : Answered). t.entry) q))
 
 -- two turns handed back for one turn of the rule are equal
-pub handed_unique : (a b : Turn CheckState) (t : Turned CheckState) → Handed a t → Handed b t → a ≡ b
+pub handed_unique : {S : Type 0} (a b : Turn S) (t : Turned S) → Handed a t → Handed b t → a ≡ b
 handed_unique a b t p q =
     let x = p.state ∙ sym q.state in
     let y = p.steps ∙ sym q.steps in

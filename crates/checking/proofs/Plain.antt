@@ -6,6 +6,10 @@
 --   step_entry, step_opens, step_closes   the step by rule 1, by rule 2, or by the others
 --   step_shuts, step_close   a step that closes, and one that is refused there
 --   stuck_…                steps that are refused
+--   taken_moved            a step that was taken leads there
+--   step_stuck, close_err  a step that is not taken is refused, and by rules 3 and 4 where rule 1 refuses nothing
+use Rattle.std.specs.Prelude.{Some, None, Result, Ok, Err}
+use Rattle.std.specs.Prelude.{IsErr}
 use Prim.Native.Nat.{ℕ, ◌+◌, ◌-◌, ◌≤◌, ◌<◌}
 use native.Mathlib.Omega.{arith}
 use native.Mathlib.Decide.{ℕ_discrete}
@@ -18,7 +22,9 @@ use Rattle.turns.specs.Turn.{Next, moved, answered, refused}
 use Rattle.trees.specs.Signature.{Entries}
 use Rattle.checking.specs.declared.CheckState.{CheckState}
 use Rattle.checking.specs.Rule.{at, close_of, step_of, nameless, second_root}
-use Rattle.checking.specs.Plain.{number_of, entry_of, no_parent, entry_fault, opened, close_entry}
+use Rattle.terms.specs.declared.Fault.{Fault}
+use Rattle.terms.specs.Faults.{tested}
+use Rattle.checking.specs.Plain.{number_of, entry_of, no_parent, entry_fault, opened, close_entry, taken}
 use Rattle.checking.proofs.Cases.{close_none}
 
 -- ---- what a step comes to
@@ -204,3 +210,36 @@ module _ (any : Bool) (n : ℕ) (e : Entries) (i top closed : ℕ) where
 
   pub stuck_entry : (f : ℕ) → f ≡ entry_fault any n e i → (f ≡ 0 → ⊥) → number_of (step_of any n e (at i top closed)) ≡ 0 → ⊥
   stuck_entry f p h w = h (sym (number_is _ _ _ (step_entry f p h)) ∙ w)
+
+-- ---- whether a step is taken
+
+pub taken_moved : (x : Next CheckState) (to : CheckState) → taken x ≡ Some to → x ≡ moved to
+taken_moved (moved a) to q = let z : Some a ≡ Some to = q in cc
+taken_moved (answered a) to q = let z : None ≡ Some to = q in cc
+taken_moved (refused u v) to q = let z : None ≡ Some to = q in cc
+
+module _ (any : Bool) (n : ℕ) (e : Entries) (i top closed : ℕ) (h : taken (step_of any n e (at i top closed)) ≡ None) where
+  never : (to : CheckState) → step_of any n e (at i top closed) ≡ moved to → ⊥
+  never to q = let z : Some to ≡ None = sym (ap taken q) ∙ h in cc
+
+  -- a step that is not taken is refused, with a number
+  pub step_stuck : number_of (step_of any n e (at i top closed)) ≡ 0 → ⊥
+  step_stuck = by_entry (ℕ_discrete (entry_fault any n e i) 0)
+    where
+      by_close : entry_fault any n e i ≡ 0 → false ≡ opened n e i top → Dec (number_of (close_of e (at i top closed)) ≡ 0)
+          → number_of (step_of any n e (at i top closed)) ≡ 0 → ⊥
+      by_close z q (yes y) = λ w. never _ (step_shuts any n e i top closed _ refl z false q refl _ refl y)
+      by_close z q (no y) = stuck_close any n e i top closed _ refl z false q refl _ refl y
+
+      by_open : entry_fault any n e i ≡ 0 → (o : Bool) → o ≡ opened n e i top → number_of (step_of any n e (at i top closed)) ≡ 0 → ⊥
+      by_open z true q = λ w. never _ (step_opens any n e i top closed _ refl z true q refl)
+      by_open z false q = by_close z q (ℕ_discrete (number_of (close_of e (at i top closed))) 0)
+
+      by_entry : Dec (entry_fault any n e i ≡ 0) → number_of (step_of any n e (at i top closed)) ≡ 0 → ⊥
+      by_entry (no z) = stuck_entry any n e i top closed _ refl z
+      by_entry (yes z) = by_open z (opened n e i top) refl
+
+  -- and where rule 1 refuses nothing, the code's test of the close has found a fault
+  pub close_err : (f : ℕ) → f ≡ entry_fault any n e i → f ≡ 0 → (r : Result Unit Fault) → tested r ≡ number_of (close_of e (at i top closed)) → IsErr r
+  close_err f p z (Ok x) g = absurd (step_stuck (ap number_of (step_faulty any n e i top closed f p z step_stuck) ∙ sym g))
+  close_err f p z (Err x) g = refl

@@ -5,13 +5,12 @@
 --   opened n e i top        rule 2: whether the step opens entry i
 --   close_entry i top c      the entry that a refused close names, or 0
 --   rest_of any n e b k st   what is left of a turn, k steps taken before
---   stepped r               what the code's step comes to
-use Rattle.std.specs.Prelude.{ℕ, ◌-◌, Result, Ok, Err, Bool, ◌&&◌, ◌||◌, leb, eqb}
+--   taken x                 the state that a step leads to, if it is taken
+use Rattle.std.specs.Prelude.{ℕ, ◌-◌, Option, Some, None, Bool, ◌&&◌, ◌||◌, leb, eqb}
 use Rattle.turns.specs.Pick.{pick}
 use Rattle.turns.specs.Turn.{Next, moved, answered, refused, Turned, run}
 use Rattle.trees.specs.Signature.{Entries}
 use Rattle.checking.specs.declared.CheckState.{CheckState}
-use Rattle.terms.specs.declared.Refusal.{Refusal}
 use Rattle.checking.specs.Rule.{accepted, step_of, nameless, second_root}
 
 -- the number by which a step is refused
@@ -46,7 +45,8 @@ close_entry i top closed = pick (eqb top 0) i (pick (eqb closed (i - 1)) 0 top)
 abbrev pub rest_of : Bool → ℕ → Entries → ℕ → ℕ → CheckState → Turned CheckState
 rest_of any n e b k st = run CheckState (accepted n) (step_of any n e) b k st
 
--- what the code's step comes to
-abbrev pub stepped : Result CheckState Refusal → Next CheckState
-stepped (Ok to) = moved to
-stepped (Err r) = refused r.number r.entry.0
+-- the state that a step leads to, none where it is refused; no step of the check is an answer
+abbrev pub taken : Next CheckState → Option CheckState
+taken (moved to) = Some to
+taken (answered to) = None
+taken (refused number entry) = None

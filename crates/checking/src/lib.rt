@@ -1,7 +1,7 @@
 // Layer 2, checking: the check of a signature, in turns and whole.
 #![tactic(auto)]
 
-ghost use Rattle.std.specs.Prelude.{◌≡◌};
+ghost use Rattle.std.specs.Prelude.{◌≡◌, ◌≤◌};
 ghost use Rattle.checking.specs.Rule.{fresh, in_range};
 ghost use Rattle.checking.specs.Turn.{TurnPromise};
 ghost use Rattle.checking.specs.Whole.{WholePromise};

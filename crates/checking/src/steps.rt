@@ -1,11 +1,12 @@
 // The steps of the check: next entry i, innermost open element top, number closed.
-ghost use Rattle.std.specs.Prelude.{◌≡◌, ◌+◌, ◌*◌, ◌-◌, ◌<◌, ◌≤◌, length};
+ghost use Rattle.std.specs.Prelude.{◌≡◌, ◌+◌, ◌*◌, ◌-◌, ◌<◌, ◌≤◌, length, None};
+ghost use Rattle.turns.specs.Turn.{refused};
 ghost use Rattle.terms.specs.Faults.{tested};
 ghost use Rattle.terms.specs.Stops.{Handed};
 ghost use Rattle.trees.specs.Signature.{cell, entries_of, width};
 ghost use Rattle.checking.specs.Rule.{Ranges, accepted, at, close_of, step_of};
 ghost use Rattle.checking.specs.Turn.{run_of};
-ghost use Rattle.checking.specs.Plain.{number_of, entry_fault, opened, close_entry, stepped};
+ghost use Rattle.checking.specs.Plain.{number_of, entry_fault, opened, close_entry, taken};
 
 use crate::CheckState;
 use terms::{Fault, PostRank, PreRank, Refusal, Stop, Turn};
@@ -68,7 +69,11 @@ fn test_close(sig: &[u16], i: u16, top: u16, closed: u16) -> Result<(), Fault>
         return Err(Fault::WrongFf);
     }
     let up = number(sig, top, 3);
-    if up < top { Ok(()) } else { Err(Fault::NotOpen) }
+    if up < top {
+        Ok(())
+    } else {
+        Err(Fault::NotOpen)
+    }
 }
 
 // The entry that a refused close names: the next one where nothing is open, none by the 9, else the one that would be closed.
@@ -82,28 +87,43 @@ fn close_entry(i: u16, top: u16, closed: u16) -> u16
     if closed + 1 == i { 0 } else { top }
 }
 
-// The step from a state within its ranges: the next entry opens, or the innermost open element closes.
-fn step(sig: &[u16], n: u16, any_name: bool, state: CheckState) -> Result<CheckState, Refusal>
+// The step from a state within its ranges: the next entry opens, or the innermost open element closes; none is taken where it is refused.
+fn step(sig: &[u16], n: u16, any_name: bool, state: CheckState) -> Option<CheckState>
     requires { (length sig.now ≡ width * n) × (n ≤ 4096) × Ranges n state }
-    ensures { stepped result ≡ step_of any_name n (entries_of width sig.now) state }
+    ensures { result ≡ taken (step_of any_name n (entries_of width sig.now) state) }
 {
     let i = state.next.0;
     let top = state.top.0;
     let closed = state.closed.0;
-    test_entry(sig, n, any_name, i).map_err(|fault| fault.at(i))?;
+    test_entry(sig, n, any_name, i).ok()?;
     if opens(sig, n, i, top) {
-        return Ok(CheckState {
+        return Some(CheckState {
             next: PreRank(i + 1),
             top: PreRank(i),
             closed: state.closed,
         });
     }
-    test_close(sig, i, top, closed).map_err(|fault| fault.at(close_entry(i, top, closed)))?;
-    Ok(CheckState {
+    test_close(sig, i, top, closed).ok()?;
+    Some(CheckState {
         next: state.next,
         top: PreRank(number(sig, top, 3)),
         closed: PostRank(closed + 1),
     })
+}
+
+// Why no step is taken: rule 1 refuses it, or else rules 3 and 4.
+fn refusal(sig: &[u16], n: u16, any_name: bool, state: CheckState) -> Refusal
+    requires { (length sig.now ≡ width * n) × (n ≤ 4096) × Ranges n state × (taken (step_of any_name n (entries_of width sig.now) state) ≡ None) }
+    ensures { step_of any_name n (entries_of width sig.now) state ≡ refused result.number result.entry.0 }
+{
+    let i = state.next.0;
+    let top = state.top.0;
+    let closed = state.closed.0;
+    if let Err(fault) = test_entry(sig, n, any_name, i) {
+        return fault.at(i);
+    }
+    let fault = test_close(sig, i, top, closed).unwrap_err();
+    fault.at(close_entry(i, top, closed))
 }
 
 // Whether the check has come to its end.
@@ -114,19 +134,31 @@ fn is_accepted(n: u16, state: CheckState) -> bool
     (state.next.0 == n + 1) & (state.top.0 == 0)
 }
 
-// Up to budget steps from a state within its ranges. No step is taken from the end, so that it is asked for only where steps stop.
+// Up to budget steps from a state within its ranges. The loop asks only whether a step is taken: what stopped it is found out once, behind it.
 pub fn run(sig: &[u16], n: u16, any_name: bool, budget: u64, start: CheckState) -> Turn<CheckState>
     requires { (length sig.now ≡ width * n) × (n ≤ 4096) × Ranges n start }
     ensures { Handed result (run_of any_name n (entries_of width sig.now) budget start) }
 {
     let mut state = start;
     for steps in 0..budget {
-        match step(sig, n, any_name, state) {
-            Ok(next) => state = next,
-            Err(_) if is_accepted(n, state) => return Turn { state, steps, stop: Stop::End },
-            Err(refusal) => return Turn { state, steps, stop: Stop::Refused(refusal) },
-        }
+        let Some(next) = step(sig, n, any_name, state) else {
+            let stop = if is_accepted(n, state) {
+                Stop::End
+            } else {
+                Stop::Refused(refusal(sig, n, any_name, state))
+            };
+            return Turn { state, steps, stop };
+        };
+        state = next;
     }
-    let stop = if is_accepted(n, state) { Stop::End } else { Stop::Budget };
-    Turn { state, steps: budget, stop }
+    let stop = if is_accepted(n, state) {
+        Stop::End
+    } else {
+        Stop::Budget
+    };
+    Turn {
+        state,
+        steps: budget,
+        stop,
+    }
 }

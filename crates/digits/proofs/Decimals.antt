@@ -4,18 +4,19 @@
 --   decimal_value   the digits of n tell n
 --   decimal_apart   two numbers with the same digits are equal
 --   decimal_front   the first digit of a number that is not 0 is no zero, and 0 is one digit
---   prints_one, prints_ten   the same two cases, printed
+--   printed_one, printed_ten   the same two cases, printed
 use Prim.Native.Nat.{ℕ, zero, suc, ◌+◌, ◌-◌, ◌*◌, ◌/◌, ◌%◌, ◌≤◌, ◌<◌}
-use mathlib.Core.Path.{◌≡◌, refl, ap, ◌∙◌, sym}
+use mathlib.Core.Path.{◌≡◌, refl, ap, ◌∙◌, sym, subst}
 use mathlib.Core.Logic.{◌⊎◌, inl, inr}
 use mathlib.Core.List.{List, [], ◌∷◌, ◌++◌}
 use native.Mathlib.Omega.{arith}
 use native.Mathlib.Decide.{dec_lt}
 use lib.ListN.{get_or}
 use borrow.Author.Tests.{lt-ltb, le-ltb}
-use Rattle.digits.specs.Page.{page, printed, Prints}
+use Rattle.digits.specs.declared.Printer.{Printer}
+use Rattle.digits.specs.Printed.{Printed}
 use Rattle.digits.specs.Decimal.{digits_in, decimal, value_after, value}
-use Rattle.digits.proofs.Pages.{prints_then}
+use Rattle.digits.proofs.Onward.{printed_then}
 
 -- one digit, or one more
 digits_one : (k n : ℕ) → n < 10 → digits_in (suc k) n ≡ (48 + n) ∷ []
@@ -95,14 +96,12 @@ decimal_front (suc n) = inr (digits_front (suc (suc n)) (suc n) (omega arith) (o
 
 -- ---- printed
 
-pub prints_one : (n d at next : ℕ) (room left : List ℕ) → n < 10 → d ≡ 48 + n → Prints (d ∷ []) at room next left
-    → Prints (decimal n) at room next left
-prints_one n d at next room left h e p =
-    p ∙ ap (λ (x : ℕ). printed (page at room) (x ∷ [])) e ∙ ap (printed (page at room)) (sym (decimal_one n h))
+pub printed_one : (n d : ℕ) {p q : Printer} → n < 10 → d ≡ 48 + n % 10 → Printed (d ∷ []) p q → Printed (decimal n) p q
+printed_one n d {p} {q} h e x =
+    let f : d ≡ 48 + n = omega arith in
+    subst (λ (l : List ℕ). Printed l p q) (ap (λ (k : ℕ). k ∷ []) f ∙ sym (decimal_one n h)) x
 
-pub prints_ten : (n d at mid next : ℕ) (room half left : List ℕ) → 10 ≤ n → d ≡ 48 + n % 10 → Prints (decimal (n / 10)) at room mid half
-    → Prints (d ∷ []) mid half next left → Prints (decimal n) at room next left
-prints_ten n d at mid next room half left h e p q =
-    prints_then (decimal (n / 10)) (d ∷ []) at room p q
-    ∙ ap (λ (x : ℕ). printed (page at room) (decimal (n / 10) ++ x ∷ [])) e
-    ∙ ap (printed (page at room)) (sym (decimal_ten n h))
+pub printed_ten : (n d : ℕ) {p q r : Printer} → 10 ≤ n → d ≡ 48 + n % 10 → Printed (decimal (n / 10)) p q → Printed (d ∷ []) q r
+    → Printed (decimal n) p r
+printed_ten n d {p} {r = r} h e x y =
+    subst (λ (l : List ℕ). Printed l p r) (ap (λ (k : ℕ). decimal (n / 10) ++ k ∷ []) e ∙ sym (decimal_ten n h)) (printed_then x y)

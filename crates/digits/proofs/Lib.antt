@@ -1,3 +1,4 @@
 pub mod Pages
+pub mod Onward
 pub mod Decimals
 pub mod Rows

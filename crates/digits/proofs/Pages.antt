@@ -1,8 +1,6 @@
 -- Laws of printing: texts one after the other, one byte, and what a room that is long enough holds.
 --   printed_append, prints_then   a text after another is one text
 --   print_full, print_one         one byte, where the room is full and where it is not
---   print_on                      a word from byte i on is byte i and then the word from the next one on
---   print_done                    from its end on nothing is left of it
 --   printed_length                no byte is added to the room
 --   printed_fits, printed_front   where the room is long enough, the text stands in it, and nothing else is written
 use Prim.Native.Nat.{ℕ, suc, ◌+◌, ◌≤◌, ◌<◌}
@@ -11,8 +9,8 @@ use mathlib.Core.List.{List, [], ◌∷◌, ◌++◌}
 use native.Mathlib.Omega.{arith}
 use native.Mathlib.Numerals.{add-one}
 use native.Mathlib.Nat.{add-zero}
-use lib.ListN.{length, get_or, drop, set, length-set}
-use lib.Seq.{sets, sets-eq, set_out, drop-cons, drop-length}
+use lib.ListN.{length, drop, set, length-set}
+use lib.Seq.{sets, sets-eq, set_out}
 use borrow.Author.Tests.{lt-ltb, le-ltb}
 use Rattle.digits.specs.Page.{Page, page, put_one, printed, Prints}
 
@@ -61,16 +59,3 @@ print_full x at room h = rw (le-ltb at (length room) h, set_out room at x h) ref
 pub print_one : (x at : ℕ) (room : List ℕ) → at < length room → Prints (x ∷ []) at room (at + 1) (set room at x)
 unfolding printed put_one
 print_one x at room h = rw (lt-ltb at (length room) h) refl
-
--- byte i of a word, and then the bytes from the next one on
-pub print_on : (word : List ℕ) (i at next : ℕ) (room left : List ℕ) → i < length word → Prints (get_or word i 0 ∷ []) at room next left
-    → printed (page next left) (drop (i + 1) word) ≡ printed (page at room) (drop i word)
-print_on word i at next room left h p =
-    ap (λ (x : Page). printed x (drop (i + 1) word)) p
-    ∙ sym (printed_append (page at room) (get_or word i 0 ∷ []) (drop (i + 1) word))
-    ∙ ap (λ (k : ℕ). printed (page at room) (get_or word i 0 ∷ drop k word)) (add-one i)
-    ∙ ap (printed (page at room)) (sym (drop-cons word i 0 h))
-
-pub print_done : (word : List ℕ) (i at : ℕ) (room : List ℕ) → i ≡ length word → page at room ≡ printed (page at room) (drop i word)
-unfolding printed
-print_done word i at room h = ap (printed (page at room)) (sym (drop-length word) ∙ ap (λ (k : ℕ). drop k word) (sym h))

@@ -1,4 +1,5 @@
 -- Digits: text in a lent room, and numbers as decimal digits.
 pub mod Page
+pub mod Printed
 pub mod Decimal
 pub mod Numbers

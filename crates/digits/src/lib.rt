@@ -2,32 +2,15 @@
 #![tactic(auto)]
 
 ghost use Rattle.std.specs.Prelude.{◌≡◌, List, [], ◌∷◌, ◌++◌, ℕ, ◌+◌, ◌<◌};
-ghost use Rattle.digits.specs.Page.{Prints};
+ghost use Rattle.digits.specs.Printed.{Printed};
 ghost use Rattle.digits.specs.Decimal.{decimal};
 ghost use Rattle.digits.specs.Numbers.{numbers};
 
-// Puts a byte at a place of the room, and answers the next place.
-fn put_byte(room: &mut [u8], at: usize, byte: u8) -> usize
-    ensures { Prints (byte ∷ []) at room.old result room.new }
-{
-    if room.len() <= at {
-        return at;
-    }
-    room[at] = byte;
-    at + 1
-}
-
-// Puts a word.
-fn put_word(room: &mut [u8], at: usize, word: &[u8]) -> usize
-    ensures { Prints word.now at room.old result room.new }
-{
-    let mut next = at;
-    let mut i: usize = 0;
-    while i < word.len() {
-        next = put_byte(room, next, word[i]);
-        i += 1;
-    }
-    next
+// A lent room, and the place in it of the next byte.
+#[derive(Drop)]
+pub struct Printer<'a> {
+    pub room: &'a mut [u8],
+    pub at: usize,
 }
 
 // The digit of a number below ten.
@@ -35,61 +18,49 @@ fn digit(number: u64) -> u8
     requires { number < 10 }
     ensures { result ≡ 48 + number }
 {
-    48 + number as u8
+    b'0' + number as u8
 }
 
-// Puts the decimal digits of a number: those of its tenth part, and then the last one.
-fn put_decimal(room: &mut [u8], at: usize, number: u64) -> usize
-    ensures { Prints (decimal number) at room.old result room.new }
-{
-    if number < 10 {
-        return put_byte(room, at, digit(number));
-    }
-    let next = put_decimal(room, at, number / 10);
-    put_byte(room, next, digit(number % 10))
-}
-
-// Puts a word and one number, as a line.
-pub fn put_one(room: &mut [u8], at: usize, word: &[u8], a: u64) -> usize
-    ensures { Prints (word.now ++ numbers (a ∷ [])) at room.old result room.new }
-{
-    let mut next = put_word(room, at, word);
-    next = put_decimal(room, next, a);
-    put_byte(room, next, 10)
-}
-
-// Puts a word and two numbers, as a line.
-pub fn put_two(room: &mut [u8], at: usize, word: &[u8], a: u64, b: u64) -> usize
-    ensures { Prints (word.now ++ numbers (a ∷ b ∷ [])) at room.old result room.new }
-{
-    let mut next = put_word(room, at, word);
-    next = put_decimal(room, next, a);
-    next = put_byte(room, next, 32);
-    next = put_decimal(room, next, b);
-    put_byte(room, next, 10)
-}
-
-// A number of sixteen bits as one of those that are printed.
-pub fn wide(x: u16) -> u64
-    ensures { result ≡ x }
-{
-    x as u64
-}
-
-// Puts numbers, as a line; none at all are no line.
-pub fn put_numbers(room: &mut [u8], at: usize, list: &[u16]) -> usize
-    ensures { Prints (numbers list.now) at room.old result room.new }
-{
-    let mut next = at;
-    let mut i: usize = 0;
-    while i < list.len() {
-        next = put_decimal(room, next, wide(list[i]));
-        i += 1;
-        if i < list.len() {
-            next = put_byte(room, next, 32);
-        } else {
-            next = put_byte(room, next, 10);
+impl Printer<'_> {
+    // Puts a byte, where the room has a place left.
+    fn put_byte(&mut self, byte: u8)
+        ensures { Printed (byte ∷ []) self.old self.new }
+    {
+        if self.at < self.room.len() {
+            self.room[self.at] = byte;
+            self.at += 1;
         }
     }
-    next
+
+    // Puts a word.
+    fn put_word(&mut self, word: &[u8])
+        ensures { Printed word.now self.old self.new }
+    {
+        for byte in word {
+            self.put_byte(*byte);
+        }
+    }
+
+    // Puts the decimal digits of a number: those of its tenth part, and then the last one.
+    // They are made here and not by `Display`, since the edits `digit_lost` and `digit_one_too_high` plant their faults here.
+    fn put_decimal(&mut self, number: u64)
+        ensures { Printed (decimal number) self.old self.new }
+    {
+        if number >= 10 {
+            self.put_decimal(number / 10);
+        }
+        self.put_byte(digit(number % 10));
+    }
+
+    // Puts a word and numbers, with a space between two and the line feed after the last; without numbers there is no line feed.
+    pub fn put_line(&mut self, word: &[u8], list: &[u64])
+        ensures { Printed (word.now ++ numbers list.now) self.old self.new }
+    {
+        self.put_word(word);
+        for (i, number) in list.iter().enumerate() {
+            self.put_decimal(*number);
+            let after = if i + 1 < list.len() { b' ' } else { b'\n' };
+            self.put_byte(after);
+        }
+    }
 }

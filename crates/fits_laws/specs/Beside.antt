@@ -100,7 +100,7 @@ module _ (s tw : List ℕ) (accepted : Accepted s tw) (room : List ℕ) (long : 
     }
       where
         -- an answer has a node
-        some : Ok m ≡ Ok 0 → ⊥
+        some : ◌≡◌ {A = Written} (Ok m) (Ok 0) → ⊥
         some q = let z : entries tw ≡ 0 = cc in omega (arith, z, (accepted_grounds s tw accepted).twig.some)
 
         by_yes : room_for s tw ≤ B → a ≡ Ok m → Came s tw B K r → r.turn.stop ≡ Stop.Answer

@@ -26,7 +26,8 @@ use Rattle.fits_rows.specs.declared.Stage.{Stage}
 use Rattle.fits_rows.specs.Fitting.{Fitting, told_by, told, fit_step}
 use Rattle.fits_rows.specs.FittingLaws.{Ranged, ranged_facts, ranged_yes, left_of, step_within, silent, steps_within}
 use Rattle.fits.specs.declared.Fit.{Fit}
-use Rattle.fits.specs.Stages.{stage_number, end_at, fit_halt}
+use Rattle.fits.specs.Stages.{end_at, fit_halt}
+use Rattle.fits_rows.specs.Stages.{stage_number}
 use Rattle.fits.specs.FitTurn.{fitting, fit_of, room_for, fit_run, fit_fits, fit_turn_of, FitHanded, FitPromise}
 use Rattle.fits_laws.specs.Questions.{FitBack}
 use Rattle.terms.specs.declared.Turn.{Turn}

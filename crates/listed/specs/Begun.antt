@@ -10,8 +10,8 @@ use Rattle.turns.specs.Pick.{pick}
 use Rattle.terms.specs.declared.Refusal.{Refusal}
 use Rattle.preparing.specs.declared.Prep.{Prep}
 use Rattle.preparing.specs.PrepTurn.{StartPromise, Fresh, start_told, start_fault, cleared, prep_at, Started}
-use Rattle.preparing.proofs.PrepCases.{start_fine, start_empty, start_sized, clear_length}
-use Rattle.listed.specs.Tables.{clear_get}
+use Rattle.preparing.proofs.PrepCases.{start_fine, start_empty, start_sized}
+use Rattle.listed.specs.Tables.{clear_length, clear_get}
 
 -- what a start call answers, and the table that it leaves
 pub record Began : Type 0 where

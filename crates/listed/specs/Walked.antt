@@ -98,13 +98,13 @@ module _ (s tw : List ℕ) (g : Grounds s tw) where
 
     standing_stays : (b : ℕ) (x : Walk) → Standing x → Standing (turn Walk ended step b x).state
     standing_stays b x i =
-        let t = turn walks.Walk walk_done (walk_step ch) b i.state in
+        let t = turn walks.Walk walk_done (walk_step ch) b i.walk in
         record {
-          state = t.state;
+          walk = t.state;
           same = ap (λ (y : Walk). (turn Walk ended step b y).state) i.same
               ∙ ap (λ (u : Turned Walk). u.state)
-              (turn_mirrored (shown n) OnWay walk_done (walk_step ch) ended step mirror b i.state i.way);
-          way = turn_inv (shown n) OnWay walk_done (walk_step ch) ended step mirror b i.state i.way;
+              (turn_mirrored (shown n) OnWay walk_done (walk_step ch) ended step mirror b i.walk i.way);
+          way = turn_inv (shown n) OnWay walk_done (walk_step ch) ended step mirror b i.walk i.way;
         }
 
     abbrev Is : Turn Walk → Turned Walk → Type 0
@@ -113,7 +113,7 @@ module _ (s tw : List ℕ) (g : Grounds s tw) where
     walk_runs : (b : ℕ) (x : Walk) (r : Turn Walk) → Standing x → WalkPromise s tw left b x r → Is r (turn Walk ended step b x)
     walk_runs b x r i h =
         let f : in_range n m w x ≡ true = rw i.same
-        (way_ranged n m e w g.tree g.twig g.small (can left) bound i.state i.way) in
+        (way_ranged n m e w g.tree g.twig g.small (can left) bound i.walk i.way) in
         let q : walk_turn_of s tw left b x ≡ walk_run_of n m e w (can left) b x
         = begun_runs s tw g.given (length left) x (in_range n m w x) (walk_run_of n m e w (can left) b x) f right.room in
         let k : Handed r (walk_run_of n m e w (can left) b x) = subst (Handed r) q h in
@@ -191,12 +191,12 @@ module _ (s tw : List ℕ) (g : Grounds s tw) where
       pub told_same : chained.told (tell_of m) c ≡ map reverse (chained.told tell chain)
       pub each_same : AllButLast (λ u. u.stop ≡ Stop.Budget) c → AllButLast (λ u. stop_of u.halt ≡ Stop.Budget) chain
 
-    walk_run_law : {y : Walk} {B K : ℕ} {r : Turn Walk} (c : WalkTurns s tw left y B K r) (i : Standing y) → Run i.state c
+    walk_run_law : {y : Walk} {B K : ℕ} {r : Turn Walk} (c : WalkTurns s tw left y B K r) (i : Standing y) → Run i.walk c
     walk_run_law {y} {B} {K} {r} c i =
         let a = ran c i in
         let b = chain_mirrored (shown n) OnWay walk_done (walk_step ch) ended step mirror said_of (λ u. stop_of u.halt ≡ Stop.Budget)
         a.chain
-        i.state i.same i.way in
+        i.walk i.same i.way in
         record {
           last = b.last;
           count = b.count;
@@ -204,7 +204,7 @@ module _ (s tw : List ℕ) (g : Grounds s tw) where
           count_same = a.count_same ∙ b.count_same;
           stop_same = a.back.stop_same ∙ ap (λ (t : Turned Walk). stop_of t.halt) b.last_same;
           standing = record {
-            state = a.kept.state;
+            walk = a.kept.walk;
             same = a.back.state_same ∙ a.kept.same;
             way = a.kept.way;
           };
@@ -224,7 +224,7 @@ module _ (s tw : List ℕ) (g : Grounds s tw) where
 
     fresh_standing : Standing fresh
     fresh_standing = record {
-      state = first;
+      walk = first;
       same = fresh_same;
       way = record { way = fresh_way ch m (m - 1) (omega (arith, g.twig.some)); least = unfold parent_of image_of in omega arith };
     }
@@ -245,4 +245,4 @@ module _ (s tw : List ℕ) (g : Grounds s tw) where
       pub run : Run from c
 
     pub way_run : {y : Walk} {B K : ℕ} {r : Turn Walk} (c : WalkTurns s tw left y B K r) → OnTheWay s tw left y → Onward c
-    way_run c i = let x = way_standing i in record { from = x.state; way = x.way.way; run = walk_run_law c x }
+    way_run c i = let x = way_standing i in record { from = x.walk; way = x.way.way; run = walk_run_law c x }

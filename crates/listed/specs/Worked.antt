@@ -134,7 +134,7 @@ unfolding begun_for ready_for given_of turn_within length_fault check.in_range r
 five_next_chain = more {b = 0} (walk_handed _) (one {b = 21} (walk_handed _))
 
 pub five_from_answer : Within five pair 21 1 (record
-    { walk = at (1 ∷ 3 ∷ replicate 14 0) 2 3 Phase.Answer; steps = 1; stop = Stop.Answer })
+    { state = at (1 ∷ 3 ∷ replicate 14 0) 2 3 Phase.Answer; steps = 1; stop = Stop.Answer })
 unfolding five_next_chain
 five_from_answer = walk_within_law five pair five_accepted five_table five_prepared_law (handed five_start_chain) five_next_chain (refl, tt)
 

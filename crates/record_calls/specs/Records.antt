@@ -7,7 +7,8 @@ use Rattle.std.specs.Prelude.{ℕ, List}
 use Rattle.records.specs.Records.{read_left, write_left}
 use Rattle.tag_lists.specs.Readers.{tags_left}
 use Rattle.tag_writing.specs.TagsBack.{back_left}
-use Rattle.telling.specs.Numbers.{kind_of, LeftNumbers}
+use Rattle.terms.specs.Kinds.{kind_of}
+use Rattle.telling.specs.Numbers.{LeftNumbers}
 
 -- the promise of reading signature records: out is how many numbers were written, 0
 abbrev pub ReadNumbers : List ℕ → List ℕ → ℕ → List ℕ → List ℕ → Type 0

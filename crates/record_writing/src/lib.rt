@@ -1,44 +1,33 @@
 // Layer 3, record_writing: signature records, written from signatures of data trees.
 #![tactic(auto)]
 
-ghost use Rattle.std.specs.Prelude.{◌≡◌, [], ◌+◌, ◌*◌, ◌≤◌, length};
-ghost use Rattle.std.proofs.lemmas.List.Edits.{sets};
+ghost use Rattle.std.specs.Prelude.{◌≡◌, ◌==◌, [], ◌*◌, ◌≤◌, length, slice_index};
+ghost use Rattle.std.specs.List.{list_any, range_with_len};
 ghost use Rattle.trees.specs.Signature.{width};
+ghost use Rattle.terms.specs.Faults.{tested};
 ghost use Rattle.terms.specs.Room.{front_with};
-ghost use Rattle.records.specs.Records.{entry_bytes, bytes_from, nameless_from, write_fault, WritePromise};
+ghost use Rattle.records.specs.Records.{entry_bytes, bytes_from, write_fault, WritePromise};
 
 use terms::{Fault, Kind, Refusal};
 
-// Writes one signature record at a place of the room.
-fn put_record(room: &mut [u8], at: usize, name: u16, post: u16, ff: u16, fa: u16)
-    requires { at + 10 ≤ length room.old }
-    ensures { room.new ≡ sets room.old at (entry_bytes name post ff fa []) }
+// Writes one signature record.
+fn put_record(record: &mut [u8], name: u16, post: u16, ff: u16, fa: u16)
+    requires { length record.old ≡ 10 }
+    ensures { record.new ≡ entry_bytes name post ff fa [] }
 {
-    room[at] = 83;
-    room[at + 1] = 69;
-    room[at + 2] = (name % 256) as u8;
-    room[at + 3] = (name / 256) as u8;
-    room[at + 4] = (post % 256) as u8;
-    room[at + 5] = (post / 256) as u8;
-    room[at + 6] = (ff % 256) as u8;
-    room[at + 7] = (ff / 256) as u8;
-    room[at + 8] = (fa % 256) as u8;
-    room[at + 9] = (fa / 256) as u8;
+    record[..2].copy_from_slice(b"SE");
+    record[2..4].copy_from_slice(&name.to_le_bytes());
+    record[4..6].copy_from_slice(&post.to_le_bytes());
+    record[6..8].copy_from_slice(&ff.to_le_bytes());
+    record[8..10].copy_from_slice(&fa.to_le_bytes());
 }
 
 // Whether one of the first size entries has name 0.
 fn has_nameless(sig: &[u16], size: usize) -> bool
     requires { width * size ≤ length sig.now }
-    ensures { result ≡ nameless_from sig.now 0 size }
+    ensures { result ≡ list_any (λ i. slice_index sig.now (4 * i) == 0) (range_with_len 0 size) }
 {
-    let mut i: usize = 0;
-    while i < size {
-        if sig[4 * i] == 0 {
-            return true;
-        }
-        i += 1;
-    }
-    false
+    (0..size).any(|i| sig[4 * i] == 0)
 }
 
 // Writes the records of the first size entries to the front of the room.
@@ -46,44 +35,33 @@ fn fill_records(sig: &[u16], size: usize, room: &mut [u8])
     requires { (width * size ≤ length sig.now) × (10 * size ≤ length room.old) }
     ensures { room.new ≡ front_with (bytes_from sig.now 0 size) room.old }
 {
-    let mut i: usize = 0;
-    while i < size {
+    for i in 0..size {
         let k = 4 * i;
-        let name = sig[k];
-        let post = sig[k + 1];
-        let ff = sig[k + 2];
-        let fa = sig[k + 3];
-        put_record(room, 10 * i, name, post, ff, fa);
-        i += 1;
+        let record = &mut room[10 * i..10 * i + 10];
+        put_record(record, sig[k], sig[k + 1], sig[k + 2], sig[k + 3]);
     }
 }
 
-// The refusal of a signature whose records are to be written, or 0.
-fn write_fault(sig: &[u16]) -> u16
-    ensures { result ≡ write_fault sig.now }
+// The fault of a signature whose records are to be written.
+#[tactic(auto, using(records::proofs::Filling::names_any), unfolding(records::specs::Records::write_fault))]
+fn test_signature(sig: &[u16]) -> Result<(), Fault>
+    ensures { tested result ≡ write_fault sig.now }
 {
-    let len = sig.len();
-    let fault = terms::length_fault(Kind::Data, len);
-    if fault != 0 {
-        return fault;
+    terms::test_length(Kind::Data, sig.len())?;
+    if has_nameless(sig, sig.len() / 4) {
+        return Err(Fault::Nameless);
     }
-    if has_nameless(sig, len / 4) {
-        return Fault::Nameless;
-    }
-    0
+    Ok(())
 }
 
 // Writes the signature records of a data tree into the room.
 pub fn write_records(sig: &[u16], room: &mut [u8]) -> Result<usize, Refusal>
     ensures { WritePromise sig.now room.old result room.new }
 {
-    let fault = write_fault(sig);
-    if fault != 0 {
-        return bytes_read::refused(fault);
-    }
+    test_signature(sig)?;
     let size = sig.len() / 4;
     if room.len() / 10 < size {
-        return bytes_read::refused(Fault::NoRoom);
+        return Err(Fault::NoRoom.into());
     }
     fill_records(sig, size, room);
     Ok(10 * size)

@@ -85,15 +85,7 @@ module _ (b : List ℕ) (st : Scan) where
 -- ---- a signature to be written
 
 module _ (s : List ℕ) where
-  pub write_length : (length_fault (most Kind.Data) width (length s) ≡ 0 → ⊥) → write_fault s ≡ length_fault (most Kind.Data) width (length s)
-  unfolding write_fault
-  write_length h = simp (ne_eqb _ _ h)
-
   module _ (fine : length_fault (most Kind.Data) width (length s) ≡ 0) where
-    pub write_nameless : nameless_from s 0 (length s / 4) ≡ true → write_fault s ≡ 3
-    unfolding write_fault
-    write_nameless h = simp (eq-eqb _ _ fine, h)
-
     pub write_fine : nameless_from s 0 (length s / 4) ≡ false → write_fault s ≡ 0
     unfolding write_fault
     write_fine h = simp (eq-eqb _ _ fine, h)

@@ -1,6 +1,7 @@
 -- Signature records: an entry after an entry is written.
 --   numbers_length, bytes_length   how long the results are
 --   numbers_next, bytes_next       the first of several entries, and the others
+--   names_any                      a name that is 0, by a test of each entry
 use Prim.Native.Nat.{ℕ, zero, suc, ◌+◌, ◌-◌, ◌*◌, ◌≤◌, ◌<◌}
 use mathlib.Core.Path.{◌≡◌, refl, ap, ◌∙◌}
 use mathlib.Core.List.{List, [], ◌∷◌}
@@ -9,8 +10,8 @@ use native.Mathlib.Nat.{not-suc-le-zero}
 use lib.ListN.{length, get_or}
 use lib.Seq.{sets}
 use lib.Dec.{eqb}
-use mathlib.Core.Bool.{Bool, true, false, ◌||◌}
-use borrow.Author.Tests.{eq-eqb, ne_eqb}
+use mathlib.Core.Bool.{Bool, ◌||◌}
+use Rattle.std.specs.List.{list_any, range_with_len}
 use Rattle.bytes_read.proofs.Rooms.{Storing, storing_more}
 use Rattle.bytes_read.specs.Bytes.{number_at}
 use Rattle.records.specs.Records.{numbers_from, entry_bytes, bytes_from, nameless_from}
@@ -96,24 +97,14 @@ bytes_stored room₀ s room to i n g h t =
 
 -- ---- names
 
-module _ (s : List ℕ) (i n : ℕ) (h : i < n) where
-  nameless_next : (k m : ℕ) → 0 < m → nameless_from s k m ≡ (eqb (get_or s k 0) 0 || nameless_from s (k + 4) (m - 1))
-  unfolding nameless_from
-  nameless_next k zero l = absurd (not-suc-le-zero l)
-  nameless_next k (suc m) l = let q : m ≡ suc m - 1 = omega arith in ap (λ (x : ℕ). eqb (get_or s k 0) 0 || nameless_from s (k + 4) x) q
-
-  pub nameless_here : get_or s (4 * i) 0 ≡ 0 → nameless_from s (4 * i) (n - i) ≡ true
-  nameless_here e = nameless_next (4 * i) (n - i) (omega arith) ∙ simp (eq-eqb _ _ e)
-
-  pub nameless_later : (get_or s (4 * i) 0 ≡ 0 → ⊥) → nameless_from s (4 * i) (n - i) ≡ nameless_from s (4 * (i + 1)) (n - (i + 1))
-  nameless_later e =
-      let p : 4 * i + 4 ≡ 4 * (i + 1) = omega arith in
-      let q : n - i - 1 ≡ n - (i + 1) = omega arith in
-      nameless_next (4 * i) (n - i) (omega arith)
-      ∙ ap (λ (x : Bool). x || nameless_from s (4 * i + 4) (n - i - 1)) (ne_eqb _ _ e)
-      ∙ ap (λ (k : ℕ). nameless_from s k (n - i - 1)) p ∙ ap (nameless_from s (4 * (i + 1))) q
-
-pub nameless_none : (s : List ℕ) (k n : ℕ) → n ≤ 0 → nameless_from s k n ≡ false
+-- a name of n entries is 0, by a test of each
+any_from : (s : List ℕ) (i n : ℕ) → nameless_from s (4 * i) n ≡ list_any (λ k. eqb (get_or s (4 * k) 0) 0) (range_with_len i n)
 unfolding nameless_from
-nameless_none s k zero h = refl
-nameless_none s k (suc n) h = absurd (omega arith)
+any_from s i zero = refl
+any_from s i (suc n) =
+    let p : 4 * i + 4 ≡ 4 * (i + 1) = omega arith in
+    ap (λ (k : ℕ). eqb (get_or s (4 * i) 0) 0 || nameless_from s k n) p
+    ∙ ap (λ (t : Bool). eqb (get_or s (4 * i) 0) 0 || t) (any_from s (i + 1) n)
+
+pub names_any : (s : List ℕ) (n : ℕ) → nameless_from s 0 n ≡ list_any (λ i. eqb (get_or s (4 * i) 0) 0) (range_with_len 0 n)
+names_any s n = any_from s 0 n

@@ -5,13 +5,16 @@
 --   numbers_from b p n       the numbers of n records from place p on
 --   bytes_from s k n         the records of n entries, from number k of the signature on
 --   read_left, write_left     what the two calls answer and leave
+--   CountPromise b r          the promise of judging signature records: how many there are, or the first fault
 --   ReadPromise, WritePromise   the promises of the two calls
-use Rattle.std.specs.Prelude.{ℕ, zero, suc, ◌+◌, ◌*◌, Bool, false, not, ◌&&◌, ◌||◌, List, [], ◌∷◌, length, get_or, ltb, leb, eqb}
+use Rattle.std.specs.Prelude.{ℕ, zero, suc, ◌+◌, ◌*◌, ◌≤◌, ◌≡◌, Bool, false, not, ◌&&◌, ◌||◌, List, [], ◌∷◌, length, get_or, ltb, leb, eqb, Result, Ok, Err}
 use Rattle.turns.specs.Pick.{pick}
 use Rattle.turns.specs.Turn.{Turned}
 use Rattle.trees.specs.Signature.{width, entries}
+use Rattle.terms.specs.Faults.{number_of}
 use Rattle.terms.specs.Kinds.{most}
 use Rattle.terms.specs.Length.{length_fault}
+use Rattle.terms.specs.declared.Fault.{Fault}
 use Rattle.terms.specs.declared.Kind.{Kind}
 use Rattle.bytes_read.specs.Bytes.{number_at, low, high, marked}
 use Rattle.bytes_read.specs.Scans.{Scan, first_fault, begin, scan_by, halt_number}
@@ -39,6 +42,12 @@ records_end b st = eqb st.at (length b) && ltb 0 st.count
 -- "Byte readers go record by record", here over all of b
 abbrev pub records_scan : List ℕ → Turned Scan
 records_scan b = scan_by (records_end b) (record_fault b) record_next (length b) (begin 0)
+
+-- the promise of judging signature records: all are read, and this many, or one has this fault
+abbrev pub CountPromise : List ℕ → Result ℕ Fault → Type 0
+CountPromise b (Ok n) =
+    (record_at n ≡ (records_scan b).state) × (halt_number (records_scan b).halt ≡ 0) × (n ≤ 4096) × (10 * n ≤ length b)
+CountPromise b (Err f) = number_of f ≡ halt_number (records_scan b).halt
 
 -- the four numbers stand after the mark
 unfoldable pub numbers_from : List ℕ → ℕ → ℕ → List ℕ

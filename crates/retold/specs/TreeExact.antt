@@ -111,8 +111,9 @@ module _ (k : Kind) (b : List ℕ) (p : ℕ) where
         → (r ≡ Ok ((length (signature y.tree)), (p + 6 * size (whole y.tree)))) × (after ≡ front_with (signature y.tree) room)
     tree_told y l =
         let e = result_is y in
-        let x = read_written number _ result room r after g (scanned y).number_is (subst (λ (s : List ℕ). length s ≤ length room) (sym e) l) in (
-          x.0 ∙ ap (λ (s : List ℕ). Ok ((length s), (tree_scan false (any_name k) (most k) b p)).state.at) e
-              ∙ ap (TreeRead.Tree (length (signature y.tree))) (scanned y).at_is,
+        let x = read_written number _ result room r after g (scanned y).number_is (subst (λ (s : List ℕ). length s ≤ length room) (sym e) l) in
+        let by_result : List ℕ → TreeRead = λ s. Ok (length s, (tree_scan false (any_name k) (most k) b p).state.at) in
+        let by_place : ℕ → TreeRead = λ q. Ok (length (signature y.tree), q) in (
+          x.0 ∙ ap by_result e ∙ ap by_place (scanned y).at_is,
           x.1 ∙ ap (λ (s : List ℕ). front_with s room) e,
         )

@@ -5,7 +5,8 @@ use Rattle.turns.specs.Turn.{Turned}
 use Rattle.checking.specs.declared.CheckState.{CheckState}
 use Rattle.checking.specs.Turn.{turn_of}
 use Rattle.terms.specs.Stops.{halt_told}
-use Rattle.telling.specs.Numbers.{kind_of, TurnTold}
+use Rattle.terms.specs.Kinds.{kind_of}
+use Rattle.telling.specs.Numbers.{TurnTold}
 use Rattle.telling.specs.States.{check_state_of, check_numbers}
 
 -- the number returned, the state and out are those of a turn t

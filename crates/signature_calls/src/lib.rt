@@ -4,8 +4,9 @@
 ghost use Rattle.signature_calls.specs.Check.{CheckTurnPromise};
 ghost use Rattle.signature_calls.specs.Axes.{LevelNumbers, PlaceNumbers, AxisNumbers};
 
-use telling::{check_of, kind_of, tell_check, tell_level, tell_place, tell_written};
-use terms::PreRank;
+use checking::CheckState;
+use telling::{Saved, tell, tell_turn};
+use terms::{Kind, PreRank};
 
 // A turn of the check on a lent state: next, top, closed. out: stop, steps, entry.
 pub fn check_turn(
@@ -17,25 +18,22 @@ pub fn check_turn(
 ) -> u16
     ensures { CheckTurnPromise kind sig.now budget state.old result state.new out.new }
 {
-    let given = check_of(*state);
-    let turned = given.turn(kind_of(kind), sig, budget);
-    tell_check(turned, state, out)
+    let turned = CheckState::from_numbers(state).turn(Kind::from(kind), sig, budget);
+    tell_turn(turned, state, out)
 }
 
 // The level of an entry. out: level, entry.
 pub fn level(sig: &[u16], rank: u16, out: &mut [u64; 2]) -> u16
     ensures { LevelNumbers sig.now rank result out.new }
 {
-    let answer = blocks::level(sig, PreRank(rank));
-    tell_level(answer, out)
+    tell(blocks::level(sig, PreRank(rank)), out)
 }
 
 // Where the block of an entry lies. out: the place of its first number from 0, how many numbers, entry.
 pub fn block_place(sig: &[u16], rank: u16, out: &mut [u64; 3]) -> u16
     ensures { PlaceNumbers sig.now rank result out.new }
 {
-    let answer = blocks::block_place(sig, PreRank(rank));
-    tell_place(answer, out)
+    tell(blocks::block_place(sig, PreRank(rank)), out)
 }
 
 // The elements on an axis of the contexts. out: ranks written, entry.
@@ -51,6 +49,8 @@ pub fn axis(
     ensures { AxisNumbers sig.now contexts.now axis name position room.old result room.new
         out.new }
 {
-    let answer = axes::axis(sig, contexts, axis, name, position, room);
-    tell_written(answer, out)
+    tell(
+        axes::axis(sig, contexts, axis, name, position, room),
+        out,
+    )
 }

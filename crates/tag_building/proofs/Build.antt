@@ -1,18 +1,17 @@
 -- Building a signature in the room: tag by tag it becomes the signature of the tree that the tags tell.
---   entry_there, close_…  one tag
+--   close_…                one tag
 --   build_of               all tags of a list
 --   build_row, build_tree  the tags of a row, and of a tree, leave its signature in the room
 --   whole_numbers         tags that are one whole tree: which tree, and its signature
 --   Built, built_…        a loop that builds
 use Prim.Native.Nat.{ℕ, suc, ◌+◌, ◌-◌, ◌*◌, ◌≤◌, ◌<◌}
 use mathlib.Core.Path.{◌≡◌, refl, ap, ◌∙◌, sym}
-use mathlib.Core.Bool.{Bool, true, false, ◌||◌}
+use mathlib.Core.Bool.{Bool, true, false}
 use mathlib.Core.List.{List, [], ◌∷◌, ◌++◌, append_assoc, append-nil}
 use native.Mathlib.Omega.{arith}
 use lib.ListN.{length, get_or, drop, set, length-append, length-drop}
 use lib.Seq.{sets, length-sets, set_at, get_or_at, drop-drop}
-use lib.Dec.{ltb, eqb}
-use borrow.Author.Tests.{ne_eqb, eqb-false, le-ltb, ltb-false}
+use borrow.Author.Tests.{ne_eqb, le-ltb}
 use Rattle.turns.specs.Pick.{pick}
 use Rattle.trees.specs.Tree.{Forest, none, elem, size, Tree, whole}
 use Rattle.trees.specs.Signature.{row_signature, signature}
@@ -31,27 +30,6 @@ use Rattle.tag_building.specs.Builds.{open_room, lacks, close_room, parent_in}
 module _ (room : List ℕ) (top : ℕ) where
   has_entry : 0 < top → 4 * top ≤ length room → lacks room top ≡ false
   has_entry h l = simp (ne_eqb (4 * top) 0 (λ z. omega (arith, z)), le-ltb _ _ l)
-
-  pub entry_there : lacks room top ≡ false → (0 < top) × (4 * top ≤ length room)
-  entry_there = go (eqb (4 * top) 0) (ltb (length room) (4 * top)) refl refl
-    where
-      go : (s t : Bool) → eqb (4 * top) 0 ≡ s → ltb (length room) (4 * top) ≡ t → (s || t) ≡ false → (0 < top) × (4 * top ≤ length room)
-      go true t u v h = let z : ◌≡◌ {A = ℕ} 0 1 = cc in absurd (omega arith)
-      go false true u v h = let z : ◌≡◌ {A = ℕ} 0 1 = cc in absurd (omega arith)
-      go false false u v h = let n = eqb-false (4 * top) 0 u in (omega (arith, n), ltb-false (length room) (4 * top) v)
-
-  pub close_lacking : (p f : ℕ) → lacks room top ≡ true → (0 ≡ parent_in room top) × (room ≡ close_room room top p f)
-  unfolding close_room parent_in
-  close_lacking p f h = (simp h, simp h)
-
-  -- its two stores, and what is read before them
-  pub close_stores : (p f : ℕ) → lacks room top ≡ false
-      → (get_or room (4 * top - 1) 0 ≡ parent_in room top) × (set (set room (4 * top - 3) p) (4 * top - 2) f ≡ close_room room top p f)
-  unfolding close_room parent_in
-  close_stores p f h =
-      let w = entry_there h in
-      let v : 4 * top - 2 ≡ suc (4 * top - 3) = omega (arith, w.0) in
-      (simp h, simp h (ap (λ (k : ℕ). set (set room (4 * top - 3) p) k f) v))
 
   close_in : (p f : ℕ) → 0 < top → 4 * top ≤ length room → close_room room top p f ≡ sets room (4 * top - 3) (p ∷ f ∷ [])
   unfolding close_room

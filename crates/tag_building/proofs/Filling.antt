@@ -60,11 +60,11 @@ module _ (all : Bool) (k : Kind) (b : List ℕ) (p : ℕ) (room : List ℕ) (any
         long = λ w. absurd (z w);
       })
 
-  pub filled_given : f ≡ 0 → (g : ℕ) (after : List ℕ) → g ≡ (left_by 0 0 (take (4 * n) own) room).answer.number
-      → after ≡ (left_by 0 0 (take (4 * n) own) room).room → FilledPromise all k b p room g at (4 * n) after
-  filled_given z g after u v =
+  pub filled_given : f ≡ 0 → (j : ℕ) → j ≡ n → (g : ℕ) (after : List ℕ) → g ≡ (left_by 0 0 (take (4 * j) own) room).answer.number
+      → after ≡ (left_by 0 0 (take (4 * j) own) room).room → FilledPromise all k b p room g at (4 * n) after
+  filled_given z j c g after u v =
       let e = reading_length all any m b p n h.count (sym h.number ∙ z) in
-      let q = ap (take (4 * n)) (h.built z) ∙ take_at (numbers_in b p n) (drop (length (numbers_in b p n)) own₀) (4 * n) e in
+      let q = ap (λ (x : ℕ). take (4 * x) own) c ∙ ap (take (4 * n)) (h.built z) ∙ take_at (numbers_in b p n) (drop (length (numbers_in b p n)) own₀) (4 * n) e in
       let w = ap (λ (l : List ℕ). left_by 0 0 l room) q ∙ ap (λ (x : ℕ). left_by x 0 (numbers_in b p n) room) (sym z) in
       promised g (4 * n) after (record {
         told = u ∙ ap (λ (x : Left). x.answer.number) w;

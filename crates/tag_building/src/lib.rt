@@ -1,31 +1,23 @@
 // Layer 3, tag_building: the tags of a list judged and built into a signature, which is given where the room is long enough.
 #![tactic(auto)]
 
-ghost use Rattle.std.specs.Prelude.{◌≡◌, ◌+◌, ◌*◌, ◌≤◌, length, take};
+ghost use Rattle.std.specs.Prelude.{◌≡◌, ◌+◌, ◌*◌, ◌≤◌, length};
 ghost use Rattle.trees.specs.Signature.{width};
+ghost use Rattle.terms.specs.Faults.{tested};
 ghost use Rattle.terms.specs.Room.{left_by};
-ghost use Rattle.bytes_read.specs.Bytes.{number_at};
 ghost use Rattle.tag_building.specs.Filled.{FilledPromise, BuiltPromise};
 ghost use Rattle.tag_building.specs.Builds.{open_room, close_room, parent_in};
 
+use bytes_read::{is_marked, number_at};
+use tag_scan::{Cursor, Limits};
 use terms::{Fault, Kind};
 
-// What reading came to: the refusal's number, or 0, the place where it stands, and the elements read.
+// What reading came to, refused or not: the place where it stopped, the elements read, and its fault.
 #[derive(Clone, Copy)]
 pub struct Judged {
-    pub fault: u16,
     pub at: usize,
     pub count: u16,
-}
-
-// The name of an element that opens at a place, where its record is not cut.
-fn name_at(bytes: &[u8], at: usize) -> u16
-    requires { at + 4 ≤ length bytes.now }
-    ensures { result ≡ number_at bytes.now (at + 2) }
-{
-    let low = bytes[at + 2] as u16;
-    let high = bytes[at + 3] as u16;
-    low + 256 * high
+    pub verdict: Result<(), Fault>,
 }
 
 // The entry of an element that opens after size others.
@@ -33,20 +25,18 @@ fn open_entry(own: &mut [u16], size: u16, name: u16, top: u16)
     requires { 4 * size + 4 ≤ length own.old }
     ensures { own.new ≡ open_room own.old size name top }
 {
-    let at = 4 * (size as usize);
-    own[at] = name;
-    own[at + 1] = 0;
-    own[at + 2] = 0;
-    own[at + 3] = top;
+    let at = 4 * usize::from(size);
+    own[at..at + 4].copy_from_slice(&[name, 0, 0, top]);
 }
 
 // The entry of an element that closes gets its post and ff; what is given is its parent. Numbers that are too few for it are left alone, so that the
 // building loop need not carry this bound.
+#[tactic(auto, unfolding(crate::specs::Builds::close_room, crate::specs::Builds::parent_in))]
 fn close_entry(own: &mut [u16], top: u16, post: u16, ff: u16) -> u16
     ensures { (result ≡ parent_in own.old top) × (own.new ≡ close_room own.old top post ff) }
 {
-    let end = 4 * (top as usize);
-    if (end == 0) | (own.len() < end) {
+    let end = 4 * usize::from(top);
+    if end == 0 || own.len() < end {
         return 0;
     }
     let up = own[end - 1];
@@ -57,74 +47,71 @@ fn close_entry(own: &mut [u16], top: u16, post: u16, ff: u16) -> u16
 
 // Judges the tags from a place on, to the end of the bytes or to the close of the root, and builds the signature of those that it has passed in numbers of
 // the reader's own.
-fn build_tree(
-    bytes: &[u8],
-    whole: bool,
-    any_name: bool,
-    most: u16,
-    from: usize,
-    own: &mut [u16],
-) -> Judged
-    requires { (most ≤ 4096) × (width * most ≤ length own.old) }
-    ensures { BuiltPromise whole any_name most bytes.now from own.old result.fault result.at result.count own.new }
+fn build_tree(limits: Limits, bytes: &[u8], whole: bool, from: usize, own: &mut [u16]) -> Judged
+    requires { (limits.most ≤ 4096) × (width * limits.most ≤ length own.old) }
+    ensures { BuiltPromise «whole» limits.any_name limits.most bytes.now from own.old (tested result.verdict) result.at result.count own.new }
 {
-    let mut at = from;
-    let mut count: u16 = 0;
+    let mut cursor = Cursor {
+        at: from,
+        depth: 0,
+        count: 0,
+    };
     let mut top: u16 = 0;
-    let mut closed: u16 = 0;
-    loop {
-        let depth = count - closed;
-        let fault = tag_scan::tag_fault(bytes, any_name, most, at, depth, count);
-        if fault != 0 {
-            return Judged { fault, at, count };
+    // No `for`: the place moves on by two or four bytes, up to the close of the root or to the first faulty tag.
+    while !cursor.is_tree_end(bytes, whole) {
+        let Cursor { at, depth, count } = cursor;
+        let verdict = cursor.test_tag(bytes, limits);
+        if verdict.is_err() {
+            return Judged { at, count, verdict };
         }
-        if bytes_read::is_marked(bytes, at, 79, 80) {
-            let name = name_at(bytes, at);
-            open_entry(own, count, name, top);
-            count += 1;
-            top = count;
-            at += 4;
+        if is_marked(bytes, at, b"OP") {
+            open_entry(own, count, number_at(bytes, at + 2), top);
+            top = count + 1;
+            cursor = Cursor {
+                at: at + 4,
+                depth: depth + 1,
+                count: count + 1,
+            };
         } else {
-            top = close_entry(own, top, closed + 1, count + 1);
-            closed += 1;
-            at += 2;
-            if tag_scan::is_tree_end(bytes, whole, at, count - closed, count) {
-                return Judged { fault, at, count };
-            }
+            top = close_entry(own, top, count - depth + 1, count + 1);
+            cursor = Cursor {
+                at: at + 2,
+                depth: depth - 1,
+                count,
+            };
         }
+    }
+    Judged {
+        at: cursor.at,
+        count: cursor.count,
+        verdict: Ok(()),
     }
 }
 
-// Copies the first len numbers to the front of the room, and gives 0. A room that is too short for them is left alone, and the refusal's number given.
-fn give_front(own: &[u16], len: usize, room: &mut [u16]) -> u16
-    requires { len ≤ length own.now }
-    ensures { (result ≡ (left_by 0 0 (take len own.now) room.old).answer.number) × (room.new ≡ (left_by 0 0 (take len own.now) room.old).room) }
+// Copies numbers to the front of the room. A room that is too short for them is left alone.
+#[tactic(auto, unfolding(terms::specs::Room::left_by, terms::specs::Room::room_for))]
+fn give_front(numbers: &[u16], room: &mut [u16]) -> Result<(), Fault>
+    ensures { (tested result ≡ (left_by 0 0 numbers.now room.old).answer.number) × (room.new ≡ (left_by 0 0 numbers.now room.old).room) }
 {
-    if room.len() < len {
-        return Fault::NoRoom;
+    if room.len() < numbers.len() {
+        return Err(Fault::NoRoom);
     }
-    let mut i: usize = 0;
-    while i < len {
-        room[i] = own[i];
-        i += 1;
-    }
-    0
+    room[..numbers.len()].copy_from_slice(numbers);
+    Ok(())
 }
 
 // Reads one tree from a place on, to the end of the bytes or to the close of its root. It builds the signature beside the room, so that a refusal at any tag
 // leaves the room alone.
 pub fn read_tags(kind: Kind, bytes: &[u8], whole: bool, from: usize, room: &mut [u16]) -> Judged
-    ensures { FilledPromise whole kind bytes.now from room.old result.fault result.at (4 * result.count) room.new }
+    ensures { FilledPromise «whole» kind bytes.now from room.old (tested result.verdict) result.at (4 * result.count) room.new }
 {
-    let any_name = kind.any_name();
-    let most = kind.most();
+    let limits = Limits::from(kind);
+    // The project has no heap: here stand the numbers of the largest tree, four to an element.
     let mut own = [0u16; 16384];
-    let judged = build_tree(bytes, whole, any_name, most, from, &mut own);
-    if judged.fault != 0 {
-        return judged;
+    let built = build_tree(limits, bytes, whole, from, &mut own);
+    if built.verdict.is_err() {
+        return built;
     }
-    let at = judged.at;
-    let count = judged.count;
-    let fault = give_front(&own, 4 * (count as usize), room);
-    Judged { fault, at, count }
+    let verdict = give_front(&own[..4 * usize::from(built.count)], room);
+    Judged { verdict, ..built }
 }

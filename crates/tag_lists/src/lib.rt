@@ -1,40 +1,30 @@
 // Layer 3, tag_lists: tag lists read into signatures, for data trees and twigs.
 #![tactic(auto)]
 
-ghost use Rattle.std.specs.Prelude.{◌≡◌};
 ghost use Rattle.tag_lists.specs.Readers.{TagsPromise, TreePromise};
 
 use tag_building::read_tags;
-use terms::{Kind, PreRank, Refusal};
-
-// A refusal of a reading, which names no entry.
-fn unread(number: u16) -> Result<(usize, usize), Refusal>
-    ensures { result ≡ TreeRead.Refused (record { number = number; entry = record { 0 = 0 } }) }
-{
-    Err(Refusal {
-        number,
-        entry: PreRank(0),
-    })
-}
+use terms::{Kind, Refusal};
 
 // Reads one tree of a kind from a place of the bytes on into the room, and says where it ended.
-pub fn read_tree(kind: Kind, bytes: &[u8], from: usize, room: &mut [u16]) -> Result<(usize, usize), Refusal>
+pub fn read_tree(
+    kind: Kind,
+    bytes: &[u8],
+    from: usize,
+    room: &mut [u16],
+) -> Result<(usize, usize), Refusal>
     ensures { TreePromise kind bytes.now from room.old result room.new }
 {
-    let got = read_tags(kind, bytes, false, from, room);
-    if got.fault != 0 {
-        return unread(got.fault);
-    }
-    Ok((4 * (got.count as usize), got.at))
+    let tree = read_tags(kind, bytes, false, from, room);
+    tree.verdict?;
+    Ok((4 * usize::from(tree.count), tree.at))
 }
 
 // Reads one whole tag list of a kind of tree into the room.
 pub fn tags_to_signature(kind: Kind, bytes: &[u8], room: &mut [u16]) -> Result<usize, Refusal>
     ensures { TagsPromise kind bytes.now room.old result room.new }
 {
-    let got = read_tags(kind, bytes, true, 0, room);
-    if got.fault != 0 {
-        return bytes_read::refused(got.fault);
-    }
-    Ok(4 * (got.count as usize))
+    let list = read_tags(kind, bytes, true, 0, room);
+    list.verdict?;
+    Ok(4 * usize::from(list.count))
 }

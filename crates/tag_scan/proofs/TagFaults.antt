@@ -71,10 +71,6 @@ module _ (whole : Bool) (b : List ℕ) (st : Scan) where
     unfolding tree_end
     end_last h k = simp (closed, h, eq-eqb _ _ k)
 
-    pub end_more : whole ≡ true → (st.at ≡ length b → ⊥) → tree_end whole b st ≡ false
-    unfolding tree_end
-    end_more h k = simp (closed, h, ne_eqb _ _ k)
-
   pub end_closed : tree_end whole b st ≡ true → root_closed st ≡ true
   unfolding tree_end
   end_closed = go (root_closed st) refl

@@ -1,2 +1,3 @@
 -- Tag lists: what they are and how they are judged.
 pub mod TagLists
+pub mod Cursors

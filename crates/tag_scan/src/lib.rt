@@ -1,108 +1,79 @@
 // Layer 3, tag_scan: the tags of a list judged, one by one.
 #![tactic(auto)]
 
-ghost use Rattle.std.specs.Prelude.{◌≡◌, true, false, ◌+◌, ◌≤◌, length, leb};
-ghost use Rattle.bytes_read.specs.Scans.{first_fault};
-ghost use Rattle.tag_scan.specs.TagLists.{nameless_at, opening, closed_with, tag_fault, tree_end};
+mod limits;
 
-// Whether the element that opens at a place has name 0 where that is refused.
-fn is_nameless(bytes: &[u8], any_name: bool, at: usize) -> bool
-    requires { at ≤ length bytes.now }
-    ensures { result ≡ nameless_at any_name bytes.now at }
-{
-    if any_name {
-        return false;
-    }
-    if bytes_read::number_at(bytes, at + 2) == 0 {
-        true
-    } else {
-        false
-    }
+ghost use Rattle.std.specs.Prelude.{◌≡◌, true, ◌+◌, ◌≤◌, length};
+
+pub use limits::Limits;
+use terms::Fault;
+
+// Where a reader of tags stands: the place of the next tag, the elements that are open, and the elements read so far.
+#[derive(Clone, Copy)]
+pub struct Cursor {
+    pub at: usize,
+    pub depth: u16,
+    pub count: u16,
 }
 
-// Whether the root is closed.
-fn is_root_closed(depth: u16, count: u16) -> bool
-    ensures { result ≡ closed_with depth count }
-{
-    if depth != 0 {
-        return false;
+impl Cursor {
+    ghost use Rattle.terms.specs.Faults.{tested};
+    ghost use Rattle.tag_scan.specs.TagLists.{opening, root_closed, tag_fault, tree_end};
+    ghost use Rattle.tag_scan.specs.Cursors.{scan_of};
+
+    // Whether the root is closed.
+    #[tactic(auto, unfolding(crate::specs::TagLists::closed_with))]
+    fn is_root_closed(self) -> bool
+        ensures { result ≡ root_closed (scan_of self) }
+    {
+        self.depth == 0 && 0 < self.count
     }
-    if 0 < count { true } else { false }
-}
 
-// The first fault of an `OP` record that is not cut, or 0.
-fn first_fault(nameless: bool, misnested: bool, over: bool) -> u16
-    ensures { result ≡ first_fault false false false nameless misnested over }
-{
-    if nameless {
-        Fault::Nameless
-    } else if misnested {
-        Fault::BadNesting
-    } else if over {
-        Fault::TooMany
-    } else {
-        0
-    }
-}
-
-// Whether so many elements are as many as there may be.
-fn is_full(most: u16, count: u16) -> bool
-    ensures { result ≡ leb most count }
-{
-    if most <= count { true } else { false }
-}
-
-// The refusal of the record of an `OP` mark, or 0.
-fn open_fault(bytes: &[u8], any_name: bool, most: u16, at: usize, depth: u16, count: u16) -> u16
-    requires { (at + 2 ≤ length bytes.now) × (opening bytes.now at ≡ true) }
-    ensures { result ≡ tag_fault any_name most bytes.now (record { at = at; depth = depth; count = count }) }
-{
-    if bytes.len() - at < 4 {
-        return Fault::Cut;
-    }
-    let nameless = is_nameless(bytes, any_name, at);
-    let misnested = is_root_closed(depth, count);
-    let over = is_full(most, count);
-    first_fault(nameless, misnested, over)
-}
-
-// The refusal of the tag at a place, or 0.
-pub fn tag_fault(bytes: &[u8], any_name: bool, most: u16, at: usize, depth: u16, count: u16) -> u16
-    ensures { result ≡ tag_fault any_name most bytes.now (record { at = at; depth = depth; count = count }) }
-{
-    if bytes.len() <= at {
-        if 0 < count {
-            return Fault::BadNesting;
+    // The fault of the record of an `OP` mark.
+    #[tactic(auto, unfolding(crate::specs::TagLists::tag_fault, crate::specs::TagLists::misnested, crate::specs::TagLists::nameless_at))]
+    fn test_open(self, bytes: &[u8], limits: Limits) -> Result<(), Fault>
+        requires { (self.at + 2 ≤ length bytes.now) × (opening bytes.now self.at ≡ true) }
+        ensures { tested result ≡ tag_fault limits.any_name limits.most bytes.now (scan_of self) }
+    {
+        if bytes.len() - self.at < 4 {
+            Err(Fault::Cut)
+        } else if !limits.any_name && bytes_read::number_at(bytes, self.at + 2) == 0 {
+            Err(Fault::Nameless)
+        } else if self.is_root_closed() {
+            Err(Fault::BadNesting)
+        } else if limits.most <= self.count {
+            Err(Fault::TooMany)
+        } else {
+            Ok(())
         }
-        return Fault::Cut;
     }
-    if bytes.len() - at < 2 {
-        return Fault::Cut;
-    }
-    if bytes_read::is_marked(bytes, at, 79, 80) {
-        return open_fault(bytes, any_name, most, at, depth, count);
-    }
-    if bytes_read::is_marked(bytes, at, 67, 76) {
-        if depth == 0 {
-            return Fault::BadNesting;
-        }
-        return 0;
-    }
-    Fault::UnknownMark
-}
 
-// Whether a tree is read: to the end of the bytes where the whole of them is asked for.
-pub fn is_tree_end(bytes: &[u8], whole: bool, at: usize, depth: u16, count: u16) -> bool
-    ensures { result ≡ tree_end «whole» bytes.now (record { at = at; depth = depth; count = count }) }
-{
-    if is_root_closed(depth, count) {
-        if whole {
-            if at == bytes.len() {
-                return true;
-            }
-            return false;
+    // The fault of the tag that stands there.
+    #[tactic(auto, unfolding(crate::specs::TagLists::tag_fault, crate::specs::TagLists::misnested))]
+    pub fn test_tag(self, bytes: &[u8], limits: Limits) -> Result<(), Fault>
+        ensures { tested result ≡ tag_fault limits.any_name limits.most bytes.now (scan_of self) }
+    {
+        let left = bytes.len().saturating_sub(self.at);
+        if left == 0 && 0 < self.count {
+            Err(Fault::BadNesting)
+        } else if left < 2 {
+            Err(Fault::Cut)
+        } else if bytes_read::is_marked(bytes, self.at, b"OP") {
+            self.test_open(bytes, limits)
+        } else if !bytes_read::is_marked(bytes, self.at, b"CL") {
+            Err(Fault::UnknownMark)
+        } else if self.depth == 0 {
+            Err(Fault::BadNesting)
+        } else {
+            Ok(())
         }
-        return true;
     }
-    false
+
+    // Whether a tree is read: to the end of the bytes where the whole of them is asked for.
+    #[tactic(auto, unfolding(crate::specs::TagLists::tree_end))]
+    pub fn is_tree_end(self, bytes: &[u8], whole: bool) -> bool
+        ensures { result ≡ tree_end «whole» bytes.now (scan_of self) }
+    {
+        self.is_root_closed() && (!whole || self.at == bytes.len())
+    }
 }

@@ -1,70 +1,48 @@
 // Layer 3, tag_writing: signatures written back as tag lists, for data trees and twigs.
 #![tactic(auto)]
 
-ghost use Rattle.std.specs.Prelude.{◌≡◌, [], ◌∷◌, ◌+◌, ◌*◌, ◌≤◌, length};
-ghost use Rattle.std.proofs.lemmas.List.Edits.{sets};
+ghost use Rattle.std.specs.Prelude.{◌≡◌, [], ◌∷◌, ◌*◌, ◌≤◌, length};
 ghost use Rattle.trees.specs.Tree.{Tree, size, whole};
 ghost use Rattle.trees.specs.Signature.{signature};
 ghost use Rattle.bytes_read.specs.Bytes.{low, high};
 ghost use Rattle.terms.specs.Room.{front_with, left_by, Leaves};
 ghost use Rattle.tag_writing.specs.TagsBack.{back_bytes, ends_at, BackPromise};
 
-use terms::{Fault, Kind, PreRank, Refusal};
+use terms::{Fault, Kind, Refusal};
 
-// Writes an `OP` and a name at a place of the room.
-fn put_open(room: &mut [u8], at: usize, name: u16)
-    requires { at + 4 ≤ length room.old }
-    ensures { room.new ≡ sets room.old at (79 ∷ 80 ∷ low name ∷ high name ∷ []) }
+// Writes an `OP` and a name.
+fn put_open(tag: &mut [u8], name: u16)
+    requires { length tag.old ≡ 4 }
+    ensures { tag.new ≡ 79 ∷ 80 ∷ low name ∷ high name ∷ [] }
 {
-    room[at] = 79;
-    room[at + 1] = 80;
-    room[at + 2] = (name % 256) as u8;
-    room[at + 3] = (name / 256) as u8;
-}
-
-// Writes a `CL` at a place of the room.
-fn put_close(room: &mut [u8], at: usize)
-    requires { at + 2 ≤ length room.old }
-    ensures { room.new ≡ sets room.old at (67 ∷ 76 ∷ []) }
-{
-    room[at] = 67;
-    room[at + 1] = 76;
+    tag[..2].copy_from_slice(b"OP");
+    tag[2..4].copy_from_slice(&name.to_le_bytes());
 }
 
 // Whether the innermost open element ends before the next entry.
+#[tactic(auto, unfolding(crate::specs::TagsBack::ends_at))]
 fn is_ending(sig: &[u16], next: u16, top: u16) -> bool
     ensures { result ≡ ends_at sig.now next top }
 {
-    if top == 0 {
-        return false;
-    }
-    if entries::entry_number(sig, PreRank(top), 2) == next {
-        true
-    } else {
-        false
-    }
+    0 < top && entries::first_past(sig, top) == next
 }
 
 // Writes the tag list of a tree's signature to the front of the room: an element that ends before the next entry closes, else the next entry opens.
-fn write_tags(sig: &[u16], count: u16, room: &mut [u8])
+fn write_tags(sig: &[u16], count: usize, room: &mut [u8])
     requires { (count ≤ 4096) × (6 * count ≤ length room.old) × ((t : Tree) × (sig.now ≡ signature t) × (size (whole t) ≡ count)) }
     ensures { room.new ≡ front_with (back_bytes sig.now) room.old }
 {
     let mut at: usize = 0;
     let mut opened: u16 = 0;
     let mut top: u16 = 0;
-    let mut closed: u16 = 0;
-    while opened + closed < 2 * count {
+    for _ in 0..2 * count {
         let next = opened + 1;
         if is_ending(sig, next, top) {
-            put_close(room, at);
-            let up = entries::entry_number(sig, PreRank(top), 3);
-            closed += 1;
-            top = up;
+            room[at..at + 2].copy_from_slice(b"CL");
+            top = entries::parent(sig, top);
             at += 2;
         } else {
-            let name = entries::entry_number(sig, PreRank(next), 0);
-            put_open(room, at, name);
+            put_open(&mut room[at..at + 4], entries::name(sig, next));
             opened = next;
             top = next;
             at += 4;
@@ -79,9 +57,9 @@ fn write_back(sig: &[u16], room: &mut [u8]) -> Result<usize, Refusal>
 {
     let size = sig.len() / 4;
     if room.len() / 6 < size {
-        return bytes_read::refused(Fault::NoRoom);
+        return Err(Fault::NoRoom.into());
     }
-    write_tags(sig, size as u16, room);
+    write_tags(sig, size, room);
     Ok(6 * size)
 }
 
@@ -89,9 +67,6 @@ fn write_back(sig: &[u16], room: &mut [u8]) -> Result<usize, Refusal>
 pub fn signature_to_tags(kind: Kind, sig: &[u16], room: &mut [u8]) -> Result<usize, Refusal>
     ensures { BackPromise kind sig.now room.old result room.new }
 {
-    let verdict = checking::check_whole(kind, sig);
-    match verdict {
-        Ok(()) => write_back(sig, room),
-        Err(refusal) => Err(refusal),
-    }
+    checking::check_whole(kind, sig)?;
+    write_back(sig, room)
 }

@@ -1,5 +1,8 @@
--- How the bare numbers of the C interface stand for kinds, stop reasons, answers and states.
+-- How the bare numbers of the C interface stand for stop reasons, answers and states.
 pub mod Numbers
 pub mod Answers
 pub mod States
+pub mod Fits
+pub mod Walk
+pub mod Back
 pub mod Once

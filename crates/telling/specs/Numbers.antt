@@ -1,19 +1,12 @@
 -- The numbers of the C interface.
---   kind_of k                   the kind of tree that a number names
 --   Says number numbers r out  this number is returned, and these numbers stand in out
 --   out_of t steps              a turn's out: stop, steps, entry
 --   TurnTold t k r out         what stopped a turn and its steps, as the number returned and out tell them
 --   AnswerTold a r out         what a call that writes into lent room answers: the length of the result, entry
 --   LeftNumbers x r after out   the same, and the room at exit, of what a call answers and leaves
-use Rattle.std.specs.Prelude.{ℕ, ◌≡◌, List, [], ◌∷◌, eqb}
-use Rattle.turns.specs.Pick.{pick}
-use Rattle.terms.specs.declared.Kind.{Kind}
+use Rattle.std.specs.Prelude.{ℕ, ◌≡◌, List, [], ◌∷◌}
 use Rattle.terms.specs.Stops.{Told, Answered}
 use Rattle.terms.specs.Room.{Left}
-
--- 0 a data tree, any other number a twig
-abbrev pub kind_of : ℕ → Kind
-kind_of k = pick (eqb k 0) Kind.Data Kind.Twig
 
 -- the refusal's number is returned, 0 where there is none; out takes the other numbers
 pub record Says (number : ℕ) (numbers : List ℕ) (r : ℕ) (left : List ℕ) : Type 0 where

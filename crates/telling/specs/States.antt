@@ -1,9 +1,12 @@
--- The saved states of the check and of preparing as lent numbers.
---   check_state_of l           the state that three numbers stand for: next, top, closed
+-- The saved states of the check and of preparing as lent numbers, and what a turn leaves of a state's numbers.
+--   check_state_of l          the state of the check that three numbers stand for: next, top, closed
 --   check_numbers st          its three numbers
 --   prepare_numbers st        the one number of a state of preparing
---   CheckSaid t r left out, PrepareSaid t r left out   what a turn hands back, as the number returned, the state and out tell it
-use Rattle.std.specs.Prelude.{ℕ, ◌≡◌, List, [], ◌∷◌, get_or}
+--   kept_over void numbers l st   the numbers that a turn leaves: those given, l, if they stand for no state, and else the state's
+--   TurnSaid kept t r left out   what a turn hands back, as the number returned, the state and out tell it
+--   CheckSaid, PrepareSaid    the same of a turn of the check, and of preparing
+use Rattle.std.specs.Prelude.{ℕ, ◌≡◌, Bool, List, [], ◌∷◌, get_or}
+use Rattle.turns.specs.Pick.{pick}
 use Rattle.checking.specs.declared.CheckState.{CheckState}
 use Rattle.checking.specs.Rule.{at}
 use Rattle.terms.specs.Stops.{told}
@@ -23,12 +26,19 @@ check_numbers st = st.next.0 ∷ st.top.0 ∷ st.closed.0 ∷ []
 abbrev pub prepare_numbers : Prep → List ℕ
 prepare_numbers st = st.next.0 ∷ []
 
--- a turn of the check, as the number returned, the state and out tell it
-pub record CheckSaid (t : Turn CheckState) (r : ℕ) (left out : List ℕ) : Type 0 where
+-- numbers that stand for no state are left as they are
+abbrev pub kept_over : {S : Type 0} → (List ℕ → Bool) → (S → List ℕ) → List ℕ → S → List ℕ
+kept_over void numbers l st = pick (void l) l (numbers st)
+
+-- a turn, as the number returned, the state and out tell it
+pub record TurnSaid {S : Type 0} (kept : S → List ℕ) (t : Turn S) (r : ℕ) (left out : List ℕ) : Type 0 where
   pub says : TurnTold (told t.stop) t.steps r out
-  pub state : left ≡ check_numbers t.state
+  pub state : left ≡ kept t.state
+
+-- a turn of the check, as the number returned, the state and out tell it
+abbrev pub CheckSaid : Turn CheckState → ℕ → List ℕ → List ℕ → Type 0
+CheckSaid t r left out = TurnSaid check_numbers t r left out
 
 -- a turn of preparing, as the number returned, the state and out tell it
-pub record PrepareSaid (t : Turn Prep) (r : ℕ) (left out : List ℕ) : Type 0 where
-  pub says : TurnTold (told t.stop) t.steps r out
-  pub state : left ≡ prepare_numbers t.state
+abbrev pub PrepareSaid : Turn Prep → ℕ → List ℕ → List ℕ → Type 0
+PrepareSaid t r left out = TurnSaid prepare_numbers t r left out

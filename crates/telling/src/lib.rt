@@ -1,163 +1,113 @@
-// Layer 5, telling: the numbers of the C interface. What kind a number names and which state saved numbers stand for, and what a call answers or a
-// turn leaves, told in numbers: the refusal's number is returned, and out takes the others.
+// Layer 6, telling: the numbers of the C interface. Which state saved numbers stand for, and what a call answers or a turn leaves, told in numbers: the
+// refusal's number is returned, and out takes the others.
 #![tactic(auto)]
 
-ghost use Rattle.std.specs.Prelude.{◌≡◌, get_or};
+ghost use Rattle.std.specs.Prelude.{◌≡◌, ℕ, List, Result, Ok, Err};
+ghost use Rattle.terms.specs.declared.Refusal.{Refusal};
 ghost use Rattle.terms.specs.Stops.{told, answered};
-ghost use Rattle.preparing.specs.PrepTurn.{prep_at};
-ghost use Rattle.telling.specs.Numbers.{kind_of, TurnTold, AnswerTold};
+ghost use Rattle.telling.specs.Numbers.{TurnTold, AnswerTold};
 ghost use Rattle.telling.specs.Answers.{LevelSaid, PlaceSaid, StartSaid};
-ghost use Rattle.telling.specs.States.{check_state_of, CheckSaid, PrepareSaid};
 
+mod saved;
 
-use checking::CheckState;
+pub use saved::{Saved, tell_turn};
+
 use preparing::Prep;
-use terms::{Kind, PostRank, PreRank, Refusal, Stop, Turn};
-
-// The kind of tree that a number names: 0 a data tree, any other number a twig.
-pub fn kind_of(kind: u16) -> Kind
-    ensures { result ≡ kind_of kind }
-{
-    if kind == 0 { Kind::Data } else { Kind::Twig }
-}
+use terms::{Refusal, Stop};
 
 // Puts what stopped a turn, its steps and the entry into out, and gives the refusal's number, or 0.
 pub fn tell_stop(stop: Stop, steps: u64, out: &mut [u64; 3]) -> u16
     ensures { TurnTold (told stop) steps result out.new }
 {
-    match stop {
-        Stop::Answer => {
-            *out = [0, steps, 0];
-            0
-        }
-        Stop::End => {
-            *out = [1, steps, 0];
-            0
-        }
-        Stop::Budget => {
-            *out = [2, steps, 0];
-            0
-        }
-        Stop::Refused(refusal) => {
-            let entry = refusal.entry.0 as u64;
-            *out = [3, steps, entry];
-            refusal.number
-        }
-    }
+    let (reason, number, entry) = match stop {
+        Stop::Answer => (0, 0, 0),
+        Stop::End => (1, 0, 0),
+        Stop::Budget => (2, 0, 0),
+        Stop::Refused(refusal) => (3, refusal.number, refusal.entry.0),
+    };
+    *out = [reason, steps, u64::from(entry)];
+    number
 }
 
-// Puts the length of a result and the entry that a refusal names into out, and gives the refusal's number, or 0.
-pub fn tell_written(answer: Result<usize, Refusal>, out: &mut [u64; 2]) -> u16
-    ensures { AnswerTold (answered answer) result out.new }
+// What a call works out, which out takes as N numbers. Those of a refusal are 0, but for the entry that it names.
+pub trait Told<const N: usize>: Sized {
+    // The number returned and out tell this answer.
+    ghost says: { Result Self Refusal → ℕ → List ℕ → Type 0 };
+
+    // What out takes where the call worked.
+    fn numbers(self) -> [u64; N]
+        ensures { says (Ok self) 0 result };
+
+    // What out takes where it refused.
+    fn refused(refusal: Refusal) -> [u64; N]
+        ensures { says (Err refusal) refusal.number result };
+}
+
+// Puts what a call answers into out, and gives the refusal's number, or 0.
+pub fn tell<T: Told<N>, const N: usize>(answer: Result<T, Refusal>, out: &mut [u64; N]) -> u16
+    ensures { T.says answer result out.new }
 {
     match answer {
-        Ok(length) => {
-            let written = length as u64;
-            *out = [written, 0];
+        Ok(value) => {
+            *out = value.numbers();
             0
         }
         Err(refusal) => {
-            let entry = refusal.entry.0 as u64;
-            *out = [0, entry];
+            *out = T::refused(refusal);
             refusal.number
         }
     }
 }
 
-// The same of a level.
-pub fn tell_level(answer: Result<u16, Refusal>, out: &mut [u64; 2]) -> u16
-    ensures { LevelSaid answer result out.new }
-{
-    match answer {
-        Ok(level) => {
-            let count = level as u64;
-            *out = [count, 0];
-            0
-        }
-        Err(refusal) => {
-            let entry = refusal.entry.0 as u64;
-            *out = [0, entry];
-            refusal.number
-        }
+// The length of a result that was written into lent room. out: length, entry.
+impl Told<2> for usize {
+    ghost says = { λ a r out. AnswerTold (answered a) r out };
+
+    fn numbers(self) -> [u64; 2] {
+        [self as u64, 0]
+    }
+
+    fn refused(refusal: Refusal) -> [u64; 2] {
+        [0, u64::from(refusal.entry.0)]
     }
 }
 
-// The same of the place of a block.
-pub fn tell_place(answer: Result<(usize, usize), Refusal>, out: &mut [u64; 3]) -> u16
-    ensures { PlaceSaid answer result out.new }
-{
-    match answer {
-        Ok((first, count)) => {
-            let place = first as u64;
-            let length = count as u64;
-            *out = [place, length, 0];
-            0
-        }
-        Err(refusal) => {
-            let entry = refusal.entry.0 as u64;
-            *out = [0, 0, entry];
-            refusal.number
-        }
+// A level. out: level, entry.
+impl Told<2> for u16 {
+    ghost says = { LevelSaid };
+
+    fn numbers(self) -> [u64; 2] {
+        [u64::from(self), 0]
+    }
+
+    fn refused(refusal: Refusal) -> [u64; 2] {
+        [0, u64::from(refusal.entry.0)]
     }
 }
 
-// The same of the start of preparing.
-pub fn tell_start(answer: Result<Prep, Refusal>, out: &mut [u64; 1]) -> u16
-    ensures { StartSaid answer result out.new }
-{
-    match answer {
-        Ok(state) => {
-            let next = state.next.0 as u64;
-            *out = [next];
-            0
-        }
-        Err(refusal) => {
-            *out = [0];
-            refusal.number
-        }
+// The place of a block's first number and how many numbers it has. out: place, count, entry.
+impl Told<3> for (usize, usize) {
+    ghost says = { PlaceSaid };
+
+    fn numbers(self) -> [u64; 3] {
+        let (place, count) = self;
+        [place as u64, count as u64, 0]
+    }
+
+    fn refused(refusal: Refusal) -> [u64; 3] {
+        [0, 0, u64::from(refusal.entry.0)]
     }
 }
 
-// The state of the check that three numbers stand for: next, top, closed.
-pub fn check_of(l: [u16; 3]) -> CheckState
-    ensures { result ≡ check_state_of l }
-{
-    CheckState {
-        next: PreRank(l[0]),
-        top: PreRank(l[1]),
-        closed: PostRank(l[2]),
+// The fresh state of preparing. out: the next entry alone.
+impl Told<1> for Prep {
+    ghost says = { StartSaid };
+
+    fn numbers(self) -> [u64; 1] {
+        [u64::from(self.next.0)]
     }
-}
 
-// Puts the state that a turn of the check leaves back into three numbers, and tells what stopped it.
-pub fn tell_check(turned: Turn<CheckState>, state: &mut [u16; 3], out: &mut [u64; 3]) -> u16
-    ensures { CheckSaid turned result state.new out.new }
-{
-    let after = turned.state;
-    let next = after.next.0;
-    let top = after.top.0;
-    let closed = after.closed.0;
-    *state = [next, top, closed];
-    let stop = turned.stop;
-    tell_stop(stop, turned.steps, out)
-}
-
-// The state of preparing that one number stands for: the next entry.
-pub fn prepare_of(l: [u16; 1]) -> Prep
-    ensures { result ≡ prep_at (get_or l 0 0) }
-{
-    Prep {
-        next: PreRank(l[0]),
+    fn refused(_refusal: Refusal) -> [u64; 1] {
+        [0]
     }
-}
-
-// Puts the state that a turn of preparing leaves back into its number, and tells what stopped it.
-pub fn tell_prepare(turned: Turn<Prep>, state: &mut [u16; 1], out: &mut [u64; 3]) -> u16
-    ensures { PrepareSaid turned result state.new out.new }
-{
-    let after = turned.state;
-    let next = after.next.0;
-    *state = [next];
-    let stop = turned.stop;
-    tell_stop(stop, turned.steps, out)
 }

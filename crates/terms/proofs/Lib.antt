@@ -1,1 +1,3 @@
+pub mod Handing
 pub mod Lengths
+pub mod Tests

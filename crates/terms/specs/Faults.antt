@@ -2,7 +2,9 @@
 --   number_of f      the number of a fault
 --   refusal_at f i    the refusal with this fault that names this entry, or none with 0
 --   tested r         what a test came to, in numbers: the number of the fault, or 0
-use Rattle.std.specs.Prelude.{ℕ, Result, Ok, Err}
+--   some_number f     it is never 0
+use Rattle.std.specs.Prelude.{ℕ, ◌≡◌, Result, Ok, Err}
+use Rattle.std.proofs.Common.{arith}
 use Rattle.terms.specs.declared.Fault.{Fault}
 use Rattle.terms.specs.declared.Refusal.{Refusal}
 
@@ -30,3 +32,18 @@ refusal_at f i = record { number = number_of f; entry = record { 0 = i } }
 abbrev pub tested : Result Unit Fault → ℕ
 tested (Ok _) = 0
 tested (Err f) = number_of f
+
+-- every fault has a number
+pub some_number : (f : Fault) → number_of f ≡ 0 → ⊥
+some_number Fault.Cut h = absurd (omega arith)
+some_number Fault.UnknownMark h = absurd (omega arith)
+some_number Fault.Nameless h = absurd (omega arith)
+some_number Fault.NotOpen h = absurd (omega arith)
+some_number Fault.WrongPost h = absurd (omega arith)
+some_number Fault.WrongFf h = absurd (omega arith)
+some_number Fault.TooMany h = absurd (omega arith)
+some_number Fault.BadArgument h = absurd (omega arith)
+some_number Fault.BadState h = absurd (omega arith)
+some_number Fault.NoRoom h = absurd (omega arith)
+some_number Fault.BadPointer h = absurd (omega arith)
+some_number Fault.BadNesting h = absurd (omega arith)

@@ -4,7 +4,7 @@
 ghost use Rattle.std.specs.Prelude.{◌≡◌};
 ghost use Rattle.trees.specs.Signature.{width};
 ghost use Rattle.terms.specs.Faults.{number_of, refusal_at, tested};
-ghost use Rattle.terms.specs.Kinds.{any_name, most};
+ghost use Rattle.terms.specs.Kinds.{any_name, kind_of, most};
 ghost use Rattle.terms.specs.Length.{length_fault};
 ghost use Rattle.terms.specs.Stops.{refused_first};
 
@@ -138,6 +138,15 @@ impl Kind {
             Kind::Data => 4096,
             Kind::Twig => 16,
         }
+    }
+}
+
+impl From<u16> for Kind {
+    ghost from_gives = { λ number kind. kind ≡ kind_of number };
+
+    // The kind that a number names: 0 a data tree, any other number a twig.
+    fn from(number: u16) -> Kind {
+        if number == 0 { Kind::Data } else { Kind::Twig }
     }
 }
 

@@ -1,117 +1,84 @@
-// The lines of a text, the fields of a line and the numbers of a field.
-ghost use Rattle.std.specs.Prelude.{◌≤◌, length};
+// A case's line: its fields and the numbers in them.
+ghost use Rattle.std.specs.Prelude.{◌≡◌, ◌≤◌, length, take};
 
 use terms::Kind;
 
-// Where a mark first stands, or the end.
-fn mark_at(bytes: &[u8], mark: u8) -> usize
-    ensures { result ≤ length bytes.now }
-{
-    for (i, byte) in bytes.iter().enumerate() {
-        if *byte == mark {
-            return i;
-        }
+// A case: a line that strokes cut into fields.
+#[derive(Clone, Copy)]
+pub struct Case<'a>(pub &'a [u8]);
+
+impl<'a> Case<'a> {
+    // Field k, counted from 0; a field that is not there is empty.
+    pub fn field(self, k: usize) -> &'a [u8]
+        ensures { length result.now ≤ length self.entry.0.now }
+    {
+        self.0.split(|byte| *byte == b'|').nth(k).unwrap_or(&[])
     }
-    bytes.len()
-}
 
-// The line at the beginning of a text, without its end.
-pub fn line_of(lines: &[u8]) -> &[u8]
-    ensures { length result.now ≤ length lines.now }
-{
-    let end = mark_at(lines, 10);
-    &lines[0..end]
-}
-
-// One less at a stroke.
-fn less(left: u16, x: u8) -> u16 {
-    if x != 124 {
-        return left;
+    // The first field, which names the case and need not be text.
+    pub fn label(self) -> &'a [u8]
+        ensures { length result.now ≤ length self.entry.0.now }
+    {
+        self.field(0)
     }
-    if 0 < left { left - 1 } else { 0 }
-}
 
-// Where field k begins, counted from 0, or the end.
-fn field_at(line: &[u8], k: u16) -> usize
-    ensures { result ≤ length line.now }
-{
-    let mut left = k;
-    for (i, byte) in line.iter().enumerate() {
-        if left == 0 {
-            return i;
-        }
-        left = less(left, *byte);
+    // The numbers of the second field, which says what is tried: the first N of them, and 0 for each that is not there.
+    pub fn numbers<const N: usize>(self) -> [u16; N] {
+        let mut numbers = [0; N];
+        numbers_into(self.field(1), &mut numbers);
+        numbers
     }
-    line.len()
 }
 
-// Field k of a line, counted from 0; a field that is not there is empty.
-pub fn field(line: &[u8], k: u16) -> &[u8] {
-    let from = field_at(line, k);
-    let rest = &line[from..];
-    let end = mark_at(rest, 124);
-    &rest[0..end]
-}
-
-// What a number comes to with one more character: a digit goes behind it, a blank begins the next number, and a word stands for the code of its first letter.
+// What a number comes to with one more character: a digit goes behind it, and a word stands for the code of its first letter.
 fn grown(x: u16, c: u8) -> u16 {
-    if c < 48 {
-        return 0;
-    }
-    if 57 < c {
-        return if x == 0 { c as u16 } else { x };
-    }
-    ((10 * (x as u32) + (c as u32 - 48)) % 65536) as u16
-}
-
-// One at a blank.
-fn step(c: u8) -> usize
-    ensures { result ≤ 1 }
-{
-    if c == 32 { 1 } else { 0 }
-}
-
-// Writes a number where there is room for it.
-pub fn store(room: &mut [u16], at: usize, x: u16) {
-    if at < room.len() {
-        room[at] = x;
+    match c {
+        b'0'..=b'9' => x.wrapping_mul(10).wrapping_add(u16::from(c - b'0')),
+        _ if c < b'0' => 0,
+        _ if x == 0 => u16::from(c),
+        _ => x,
     }
 }
 
-// Writes the numbers of a field, which have a blank between them, as far as there is room, and answers how many there are.
+// Writes the numbers of a field, which have a blank between them, as far as there is room, and answers how many there are. A blank at the beginning leaves the
+// first place as it was.
 pub fn numbers_into(list: &[u8], room: &mut [u16]) -> usize {
-    if list.len() == 0 {
+    if list.is_empty() {
         return 0;
     }
-    let mut x: u16 = 0;
-    let mut at = 0;
-    for c in list {
-        x = grown(x, *c);
-        at += step(*c);
-        store(room, at, x);
+    let left = usize::from(list[0] == b' ');
+    let words = list.split(|c| *c == b' ');
+    for (place, word) in room.iter_mut().zip(words).skip(left) {
+        *place = word.iter().fold(0, |x, c| grown(x, *c));
     }
-    at + 1
+    list.split(|c| *c == b' ').count()
 }
 
-// The first n numbers, or all of them.
-pub fn front(s: &[u16], n: usize) -> &[u16] {
-    if n <= s.len() { &s[0..n] } else { s }
+// The first n of a list, or all of them.
+pub fn front<T>(list: &[T], n: usize) -> &[T]
+    ensures { result.now ≡ take n list.now }
+{
+    &list[..n.min(list.len())]
 }
 
-pub fn wide(x: u16) -> u64 {
-    x as u64
-}
-
-pub fn size(x: u16) -> usize {
-    x as usize
-}
+// A word that names nothing to try, as the number that it stands for.
+#[derive(Clone, Copy)]
+pub struct UnknownWord(pub u16);
 
 // A number of a line as a budget: 65,535 stands for the greatest one.
 pub fn great(x: u16) -> u64 {
-    if x == 65535 { u64::MAX } else { x as u64 }
+    if x == u16::MAX {
+        u64::MAX
+    } else {
+        u64::from(x)
+    }
 }
 
-// The kind of tree that a word names, `twig` or another.
+// The kind of tree that a word names by its first letter, `twig` or another.
 pub fn kind_of(word: u16) -> Kind {
-    if word == 116 { Kind::Twig } else { Kind::Data }
+    if word == u16::from(b't') {
+        Kind::Twig
+    } else {
+        Kind::Data
+    }
 }

@@ -8,7 +8,7 @@ mod fields;
 mod made;
 mod shown;
 
-pub use cases::read_cases;
-pub use fields::{field, front, great, kind_of, line_of, numbers_into, size, wide};
+pub use cases::{Out, read_cases, try_cases};
+pub use fields::{Case, UnknownWord, front, great, kind_of, numbers_into};
 pub use made::tree_into;
-pub use shown::{number, numbers, refused, room_left, stop_number, stopped, text, told};
+pub use shown::{Row, came_to, length_told, room_left, stopped, told};

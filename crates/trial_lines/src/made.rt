@@ -1,136 +1,138 @@
-// The trees that lines name by a letter and the number of their elements: T document 01's Ten, F its Five, C a chain, B a root with leaves, S a chain in which
-// each element has a leaf before the next, H a tree of half matches; and O so many ones, R the ranks up to a number.
-ghost use Rattle.std.specs.Prelude.{◌≤◌};
+// The trees that lines name by a letter and the number of their elements.
+ghost use Rattle.std.specs.Prelude.{◌≤◌, ℕ, length};
 
-use crate::fields::{numbers_into, size, store};
+use crate::fields::{front, numbers_into};
 
-// Writes a number that no tree makes too large.
-fn keep(sig: &mut [u16], at: usize, x: usize) {
-    store(sig, at, (x % 65536) as u16);
-}
+// Document 01's Ten: name, post, ff and fa of each element.
+const TEN: [u16; 40] = [
+    1, 10, 11, 0, 2, 5, 7, 1, 3, 3, 6, 2, 4, 1, 5, 3, 5, 2, 6, 3, 7, 4, 7, 2, 6, 9, 11, 1, 8, 8,
+    11, 7, 9, 6, 10, 8, 10, 7, 11, 8,
+];
 
-// Writes entry i, where it fits.
-fn entry_into(sig: &mut [u16], i: usize, name: usize, post: usize, ff: usize, fa: usize)
-    requires { (1 ≤ i) × (i ≤ 20000) }
+// Document 01's Five.
+const FIVE: [u16; 20] = [1, 5, 6, 0, 1, 1, 3, 1, 1, 4, 6, 1, 1, 2, 5, 3, 1, 3, 6, 3];
+
+// Entry i of a chain of n elements.
+fn chain(n: u16, i: u16) -> [u16; 4]
+    requires { (1 ≤ i) × (i ≤ n) × (n ≤ 20000) }
 {
-    let first = 4 * (i - 1);
-    keep(&mut *sig, first, name);
-    keep(&mut *sig, first + 1, post);
-    keep(&mut *sig, first + 2, ff);
-    keep(&mut *sig, first + 3, fa);
+    [1, n + 1 - i, n + 1, i - 1]
 }
 
-// Writes entry i of a root with n - 1 leaves.
-fn broad(sig: &mut [u16], n: usize, i: usize)
+// Entry i of a root with n - 1 leaves.
+fn broad(n: u16, i: u16) -> [u16; 4]
     requires { (1 ≤ i) × (i ≤ n) × (n ≤ 20000) }
 {
     if i < 2 {
-        entry_into(sig, i, 1, n, n + 1, 0);
+        [1, n, n + 1, 0]
     } else {
-        entry_into(sig, i, 1, i - 1, i + 1, 1);
+        [1, i - 1, i + 1, 1]
     }
 }
 
-// Writes entry i of n in a chain in which each element has a leaf before the next.
-fn stair(sig: &mut [u16], n: usize, i: usize)
+// Entry i of n in a chain in which each element has a leaf before the next.
+fn stair(n: u16, i: u16) -> [u16; 4]
     requires { (1 ≤ i) × (i ≤ n) × (n ≤ 20000) }
 {
     if i < 2 {
-        entry_into(sig, i, 1, n, n + 1, 0);
-        return;
-    }
-    if i % 2 == 0 {
-        entry_into(sig, i, 1, i / 2, i + 1, i - 1);
+        [1, n, n + 1, 0]
+    } else if i % 2 == 0 {
+        [1, i / 2, i + 1, i - 1]
     } else {
-        entry_into(sig, i, 1, n + 1 - (i + 1) / 2, n + 1, i - 2);
+        [1, n + 1 - (i + 1) / 2, n + 1, i - 2]
     }
 }
 
-// Writes entry i of the root of n elements whose children are named 2. Each has a child named 3, and one in every thousand also one named 4, so that the twig
+// Entry i of the root of n elements whose children are named 2. Each has a child named 3, and one in every thousand also one named 4, so that the twig
 // 2(3,4) begins often and is seldom found.
-fn half(sig: &mut [u16], n: usize, i: usize)
+fn half(n: u16, i: u16) -> [u16; 4]
     requires { (1 ≤ i) × (i ≤ n) × (n ≤ 20000) }
 {
     if i < 2 {
-        entry_into(sig, i, 1, n, n + 1, 0);
-        return;
+        return [1, n, n + 1, 0];
     }
-    let place = (i - 2) % 2001;
-    if place == 0 {
-        entry_into(sig, i, 2, i + 1, i + 3, 1);
-        return;
-    }
-    if place == 2 {
-        entry_into(sig, i, 4, i - 2, i + 1, i - 2);
-        return;
-    }
-    if (place % 2 == 1) & (1 < place) {
-        entry_into(sig, i, 2, i, i + 2, 1);
-    } else {
-        entry_into(sig, i, 3, i - 2, i + 1, i - 1);
+    match (i - 2) % 2001 {
+        0 => [2, i + 1, i + 3, 1],
+        2 => [4, i - 2, i + 1, i - 2],
+        place if place % 2 == 1 && 1 < place => [2, i, i + 2, 1],
+        _ => [3, i - 2, i + 1, i - 1],
     }
 }
 
-// Writes entry i, or number i of a list that is no tree.
-fn element(sig: &mut [u16], letter: u8, n: usize, i: usize)
-    requires { (1 ≤ i) × (i ≤ n) × (n ≤ 20000) }
-{
-    match letter {
-        b'B' => broad(sig, n, i),
-        b'S' => stair(sig, n, i),
-        b'H' => half(sig, n, i),
-        b'O' => keep(sig, i - 1, 1),
-        b'R' => keep(sig, i - 1, i),
-        _ => entry_into(sig, i, 1, n + 1 - i, n + 1, i - 1),
+// Writes numbers from the room's beginning on, as far as they fit.
+fn put(room: &mut [u16], numbers: &[u16]) {
+    for (place, x) in room.iter_mut().zip(numbers) {
+        *place = *x;
     }
 }
 
-fn elements(sig: &mut [u16], letter: u8, n: usize)
-    requires { n ≤ 20000 }
+// Writes n entries, as far as they fit, and answers how many numbers they have.
+fn entries_into<F: Fn(u16, u16) -> [u16; 4]>(room: &mut [u16], n: u16, entry: F) -> usize
+    requires { (i : ℕ) → 1 ≤ i → i ≤ n → F.pre entry n i }
 {
+    let mut rest = room;
     for i in 1..=n {
-        element(sig, letter, n, i);
+        let len = rest.len().min(4);
+        let (places, after) = rest.split_at_mut(len);
+        put(places, &entry(n, i));
+        rest = after;
+    }
+    4 * usize::from(n)
+}
+
+// Writes n numbers, as far as they fit, and answers how many they are.
+fn list_into<F: Fn(u16) -> u16>(room: &mut [u16], n: u16, number: F) -> usize
+    requires { F.IsAlwaysCallable number }
+{
+    for (i, place) in (1..=n).zip(room.iter_mut()) {
+        *place = number(i);
+    }
+    usize::from(n)
+}
+
+// Writes the tree or list of a letter, as far as it fits, and answers how many numbers it has: T document 01's Ten, F its Five, C a chain, B a root with
+// leaves, S a chain in which each element has a leaf before the next, H a tree of half matches; and O so many ones, R the ranks up to a number.
+fn made_into(room: &mut [u16], letter: u8, n: u16) -> usize {
+    match letter {
+        b'T' => {
+            put(room, &TEN);
+            TEN.len()
+        }
+        b'F' => {
+            put(room, &FIVE);
+            FIVE.len()
+        }
+        _ if 20000 < n => 0,
+        b'O' => list_into(room, n, |_| 1),
+        b'R' => list_into(room, n, |i| i),
+        b'B' => entries_into(room, n, broad),
+        b'S' => entries_into(room, n, stair),
+        b'H' => entries_into(room, n, half),
+        _ => entries_into(room, n, chain),
     }
 }
 
-// Writes the tree or list of a letter, and answers how many numbers it has.
-fn named(sig: &mut [u16], letter: u8, n: usize) -> usize {
-    if letter == b'T' {
-        return numbers_into(
-            b"1 10 11 0 2 5 7 1 3 3 6 2 4 1 5 3 5 2 6 3 7 4 7 2 6 9 11 1 8 8 11 7 9 6 10 8 10 7 11 8",
-            sig,
-        );
-    }
-    if letter == b'F' {
-        return numbers_into(b"1 5 6 0 1 1 3 1 1 4 6 1 1 2 5 3 1 3 6 3", sig);
-    }
-    if 20000 < n {
-        return 0;
-    }
-    elements(sig, letter, n);
-    if (letter == b'O') | (letter == b'R') {
-        n
-    } else {
-        4 * n
-    }
-}
-
-fn first(list: &[u8]) -> u8 {
-    if 0 < list.len() { list[0] } else { 0 }
-}
-
-// Writes what a field lists, and answers how many numbers it has: the numbers themselves, or a letter, a size and, where one number is to be another, its
-// place and what stands there instead.
-pub fn tree_into(list: &[u8], sig: &mut [u16]) -> usize {
-    let letter = first(list);
-    if letter < b'A' {
-        return numbers_into(list, sig);
-    }
-    let mut v = [0u16; 4];
-    let count = numbers_into(list, &mut v);
-    let len = named(&mut *sig, letter, size(v[1]));
+// Writes the tree that a field names by a letter and a size and, where one number is to be another, its place and what stands there instead.
+fn named_into(room: &mut [u16], letter: u8, list: &[u8]) -> usize {
+    let mut words = [0; 4];
+    let count = numbers_into(list, &mut words);
+    let [_, n, at, x] = words;
+    let len = made_into(room, letter, n);
     if count == 4 {
-        store(sig, size(v[2]), v[3]);
+        if let Some(place) = room.get_mut(usize::from(at)) {
+            *place = x;
+        }
     }
     len
+}
+
+// Writes what a field lists, as far as it fits, and hands back what is written: the numbers themselves, or the tree or list that a letter names.
+pub fn tree_into<'a>(list: &[u8], room: &'a mut [u16]) -> &'a [u16]
+    ensures { length result.now ≤ length room.entry.now }
+{
+    let len = match list.first() {
+        Some(letter) if b'A' <= *letter => named_into(room, *letter, list),
+        _ => numbers_into(list, room),
+    };
+    front(room, len)
 }

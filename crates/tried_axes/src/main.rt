@@ -8,58 +8,85 @@
 
 mod told_entries;
 
+use axes::axis;
 use std::io;
-use std::io::{BufWriter, Write};
+use std::io::Write;
 use told_entries::entries_told;
-use trial_lines::{field, front, line_of, number, numbers, numbers_into, read_cases, refused, room_left, text, told, tree_into, wide};
+use trial_lines::{
+    Case, Row, UnknownWord, front, length_told, numbers_into, room_left, told, tree_into, try_cases,
+};
 
-// What is tried, as words of a line.
-const ALL: u16 = 97;
+// What a line's first word has tried.
+#[derive(Clone, Copy)]
+enum Tried {
+    All,
+    Call,
+    Ends,
+    Levels,
+    Heading,
+}
 
-const CALL: u16 = 99;
+impl TryFrom<u16> for Tried {
+    type Error = UnknownWord;
 
-const ENDS: u16 = 101;
+    // A word stands for its first letter; only where there is none is nothing tried.
+    fn try_from(word: u16) -> Result<Self, UnknownWord> {
+        match u8::try_from(word) {
+            Ok(0) => Err(UnknownWord(word)),
+            Ok(b'a') => Ok(Tried::All),
+            Ok(b'c') => Ok(Tried::Call),
+            Ok(b'e') => Ok(Tried::Ends),
+            Ok(b'l') => Ok(Tried::Levels),
+            _ => Ok(Tried::Heading),
+        }
+    }
+}
 
-const LEVELS: u16 = 108;
-
-// What one entry answers.
-fn from_one(
-    out: &mut impl Write,
-    sig: &[u16],
+// What is asked of each context: an axis, a name and a position.
+#[derive(Clone, Copy)]
+struct Step {
     axis: u16,
     name: u16,
     position: u16,
-    context: u16,
-) -> io::Result<()> {
-    let mut room = [0u16; 10];
-    let answer = axes::axis(sig, &[context], axis, name, position, &mut room);
-    match answer {
-        Ok(len) => numbers(out, front(&room, len))?,
-        Err(refusal) => refused(out, refusal)?,
-    }
-    text(out, b" /")
 }
 
-// A line: what each of the entries answers.
-fn each_entry(
-    out: &mut impl Write,
-    sig: &[u16],
-    end: u16,
-    axis: u16,
-    name: u16,
-    position: u16,
-) -> io::Result<()> {
-    numbers(out, &[axis, name, position])?;
-    text(out, b" :")?;
-    for c in 1..end {
-        from_one(out, sig, axis, name, position, c)?;
+impl Step {
+    // What one entry answers.
+    fn from_one<W: Write>(self, out: &mut W, sig: &[u16], context: u16) -> io::Result<()> {
+        let mut room = [0; 10];
+        let answer = axis(
+            sig,
+            &[context],
+            self.axis,
+            self.name,
+            self.position,
+            &mut room,
+        );
+        told(out, answer, |out, len| {
+            write!(out, "{}", Row(front(&room, len)))
+        })?;
+        out.write_all(b" /")
     }
-    text(out, b"\n")
+
+    // A line: what each of the entries below an end answers.
+    fn from_each(self, out: &mut impl Write, sig: &[u16], end: u16) -> io::Result<()> {
+        write!(out, " {} {} {} :", self.axis, self.name, self.position)?;
+        for context in 1..end {
+            self.from_one(out, sig, context)?;
+        }
+        out.write_all(b"\n")
+    }
 }
 
+// An axis with so many pairs of a name and a position.
 fn each_pair(out: &mut impl Write, sig: &[u16], end: u16, axis: u16, pairs: u16) -> io::Result<()> {
     for k in 0..pairs {
-        each_entry(out, sig, end, axis, k / 7, k % 7)?;
+        let step = Step {
+            axis,
+            name: k / 7,
+            position: k % 7,
+        };
+        step.from_each(out, sig, end)?;
     }
     Ok(())
 }
@@ -72,31 +99,27 @@ fn each_axis(out: &mut impl Write, sig: &[u16], end: u16, pairs: u16) -> io::Res
 }
 
 // The length of a list, its first number and its last.
-fn list_ends(out: &mut impl Write, room: &[u16], len: usize) -> io::Result<()> {
-    number(out, len as u64)?;
-    if 0 < len && len <= room.len() {
-        number(out, wide(room[0]))?;
-        number(out, wide(room[len - 1]))?;
+fn list_ends(out: &mut impl Write, list: &[u16]) -> io::Result<()> {
+    write!(out, " {}", list.len())?;
+    match (list.first(), list.last()) {
+        (Some(first), Some(last)) => write!(out, " {first} {last}"),
+        _ => Ok(()),
     }
-    Ok(())
 }
 
 // The ends of an answer in a large tree.
-fn ends(
-    out: &mut impl Write,
+fn ends<W: Write>(
+    out: &mut W,
     sig: &[u16],
     contexts: &[u16],
-    axis: u16,
+    number: u16,
     position: u16,
 ) -> io::Result<()> {
-    let mut room = [0u16; 4096];
-    let answer = axes::axis(sig, contexts, axis, 0, position, &mut room);
-    number(out, wide(axis))?;
-    match answer {
-        Ok(len) => list_ends(out, &room, len)?,
-        Err(refusal) => refused(out, refusal)?,
-    }
-    text(out, b" /")
+    let mut room = [0; 4096];
+    let answer = axis(sig, contexts, number, 0, position, &mut room);
+    write!(out, " {number}")?;
+    told(out, answer, |out, len| list_ends(out, front(&room, len)))?;
+    out.write_all(b" /")
 }
 
 fn each_axis_ends(
@@ -105,84 +128,51 @@ fn each_axis_ends(
     contexts: &[u16],
     position: u16,
 ) -> io::Result<()> {
-    for axis in 0..11u16 {
-        ends(out, sig, contexts, axis, position)?;
+    for number in 0..11u16 {
+        ends(out, sig, contexts, number, position)?;
     }
-    text(out, b"\n")
+    out.write_all(b"\n")
 }
 
-// What one call says, with the room that it leaves.
-fn asked(
-    out: &mut impl Write,
-    sig: &[u16],
-    contexts: &[u16],
-    axis: u16,
-    position: u16,
-    room: &mut [u16],
-) -> io::Result<()> {
-    told(out, axes::axis(sig, contexts, axis, 0, position, room))?;
-    room_left(out, room)
-}
-
+// What one call says, with the room that it leaves; a list too long for the room is not tried.
 fn one_call(
     out: &mut impl Write,
     list: &[u8],
-    v: [u16; 3],
     sig: &[u16],
     contexts: &[u16],
+    number: u16,
+    position: u16,
 ) -> io::Result<()> {
-    let mut room = [0u16; 11];
+    let mut room = [0; 11];
     let width = numbers_into(list, &mut room);
-    if width <= 11 {
-        asked(out, sig, contexts, v[1], v[2], &mut room[0..width])?;
-    }
-    Ok(())
+    let Some(lent) = room.get_mut(..width) else {
+        return Ok(());
+    };
+    length_told(out, axis(sig, contexts, number, 0, position, lent))?;
+    room_left(out, lent)
 }
 
-fn tried(
-    out: &mut impl Write,
-    line: &[u8],
-    v: [u16; 3],
-    sig: &[u16],
-    contexts: &[u16],
-) -> io::Result<()> {
-    text(out, field(line, 0))?;
-    match v[0] {
-        CALL => one_call(out, field(line, 4), v, sig, contexts),
-        ALL => each_axis(out, sig, v[1], v[2]),
-        LEVELS => entries_told(out, sig, v[1], v[2]),
-        ENDS => each_axis_ends(out, sig, contexts, v[2]),
-        _ => text(out, b"\n"),
+// A line whose first word names nothing to try prints nothing.
+fn try_case(out: &mut impl Write, case: Case) -> io::Result<()> {
+    let [word, a, b] = case.numbers::<3>();
+    let mut sig = [0; 16388];
+    let sig = tree_into(case.field(2), &mut sig);
+    let mut contexts = [0; 4096];
+    let contexts = tree_into(case.field(3), &mut contexts);
+    let Ok(tried) = Tried::try_from(word) else {
+        return Ok(());
+    };
+    out.write_all(case.label())?;
+    match tried {
+        Tried::Call => one_call(out, case.field(4), sig, contexts, a, b),
+        Tried::All => each_axis(out, sig, a, b),
+        Tried::Levels => entries_told(out, sig, a, b),
+        Tried::Ends => each_axis_ends(out, sig, contexts, b),
+        Tried::Heading => out.write_all(b"\n"),
     }
-}
-
-fn case(out: &mut impl Write, line: &[u8]) -> io::Result<()> {
-    let mut v = [0u16; 3];
-    numbers_into(field(line, 1), &mut v);
-    let mut sig = [0u16; 16388];
-    let n = tree_into(field(line, 2), &mut sig);
-    let mut contexts = [0u16; 4096];
-    let m = tree_into(field(line, 3), &mut contexts);
-    if 0 < v[0] {
-        tried(out, line, v, front(&sig, n), front(&contexts, m))?;
-    }
-    Ok(())
-}
-
-fn each_case(out: &mut impl Write, lines: &[u8]) -> io::Result<()> {
-    let mut from = 0;
-    while from < lines.len() {
-        let line = line_of(&lines[from..]);
-        case(out, line)?;
-        from += line.len() + 1;
-    }
-    Ok(())
 }
 
 // A read or a write that fails ends the program with its error.
 fn main(rt: HostRuntime) -> io::Result<()> {
-    let lines = read_cases(&rt)?;
-    let mut out = BufWriter::new(rt.alloc(), rt.stdout())?;
-    each_case(&mut out, lines.as_slice())?;
-    out.flush()
+    try_cases(&rt, |out, case| try_case(out, case))
 }

@@ -4,84 +4,77 @@
 // whole check, `cut` a fresh turn and then the rest), the kind of tree, the budget, and next, top and closed of the state; and the signature.
 #![tactic(auto)]
 
-use checking::CheckState;
+use checking::{CheckState, check_whole};
 use std::io;
-use std::io::{BufWriter, Write};
-use terms::{PostRank, PreRank, Refusal, Turn};
-use trial_lines::{field, front, kind_of, line_of, number, numbers_into, read_cases, refused, stopped, text, tree_into, wide};
+use std::io::Write;
+use terms::{Kind, PostRank, PreRank, Refusal, Turn};
+use trial_lines::{Case, UnknownWord, came_to, kind_of, told, tree_into, try_cases};
 
-// What is tried, as words of a line.
-const TURN: u16 = 116;
+// What a line's first word has tried.
+#[derive(Clone, Copy)]
+enum Tried {
+    Turn,
+    Whole,
+    Cut,
+}
 
-const WHOLE: u16 = 119;
+impl TryFrom<u16> for Tried {
+    type Error = UnknownWord;
 
-const CUT: u16 = 99;
+    // A word stands for its first letter.
+    fn try_from(word: u16) -> Result<Self, UnknownWord> {
+        match u8::try_from(word) {
+            Ok(b't') => Ok(Tried::Turn),
+            Ok(b'w') => Ok(Tried::Whole),
+            Ok(b'c') => Ok(Tried::Cut),
+            _ => Err(UnknownWord(word)),
+        }
+    }
+}
 
 fn shown(out: &mut impl Write, label: &[u8], turn: Turn<CheckState>) -> io::Result<()> {
-    text(out, label)?;
-    stopped(out, turn.stop)?;
-    number(out, turn.steps)?;
-    number(out, wide(turn.state.next.0))?;
-    number(out, wide(turn.state.top.0))?;
-    number(out, wide(turn.state.closed.0))?;
-    text(out, b"\n")
+    let CheckState { next, top, closed } = turn.state;
+    out.write_all(label)?;
+    came_to(out, turn.stop, turn.steps, &[next.0, top.0, closed.0])?;
+    out.write_all(b"\n")
 }
 
 fn judged(out: &mut impl Write, label: &[u8], verdict: Result<(), Refusal>) -> io::Result<()> {
-    text(out, label)?;
-    match verdict {
-        Ok(()) => text(out, b" accepted")?,
-        Err(refusal) => refused(out, refusal)?,
-    }
-    text(out, b"\n")
+    out.write_all(label)?;
+    told(out, verdict, |out, _| out.write_all(b" accepted"))?;
+    out.write_all(b"\n")
 }
 
-// A turn of b steps and then the rest: the states and sums are those of one turn.
-fn cut(out: &mut impl Write, label: &[u8], kind: u16, sig: &[u16], b: u64) -> io::Result<()> {
-    let first = CheckState::fresh().turn(kind_of(kind), sig, b);
+// A turn of so many steps and then the rest: the states and sums are those of one turn.
+fn cut(out: &mut impl Write, label: &[u8], kind: Kind, sig: &[u16], budget: u64) -> io::Result<()> {
+    let first = CheckState::fresh().turn(kind, sig, budget);
     shown(out, label, first)?;
-    let second = first.state.turn(kind_of(kind), sig, 1000);
-    shown(out, b"then", second)
+    shown(out, b"then", first.state.turn(kind, sig, 1000))
 }
 
-fn tried(out: &mut impl Write, label: &[u8], v: [u16; 6], sig: &[u16]) -> io::Result<()> {
-    match v[0] {
-        TURN => {
+// A line whose first word names nothing to try prints nothing.
+fn try_case(out: &mut impl Write, case: Case) -> io::Result<()> {
+    let [word, kind, budget, next, top, closed] = case.numbers::<6>();
+    let (kind, budget) = (kind_of(kind), u64::from(budget));
+    let mut room = [0; 16389];
+    let sig = tree_into(case.field(2), &mut room);
+    let label = case.label();
+    match Tried::try_from(word) {
+        Ok(Tried::Turn) => {
             let state = CheckState {
-                next: PreRank(v[3]),
-                top: PreRank(v[4]),
-                closed: PostRank(v[5]),
+                next: PreRank(next),
+                top: PreRank(top),
+                closed: PostRank(closed),
             };
-            shown(out, label, state.turn(kind_of(v[1]), sig, wide(v[2])))
+            shown(out, label, state.turn(kind, sig, budget))
         }
-        WHOLE => judged(out, label, checking::check_whole(kind_of(v[1]), sig)),
-        CUT => cut(out, label, v[1], sig, wide(v[2])),
-        _ => Ok(()),
+        Ok(Tried::Whole) => judged(out, label, check_whole(kind, sig)),
+        Ok(Tried::Cut) => cut(out, label, kind, sig, budget),
+        Err(_) => Ok(()),
     }
-}
-
-fn case(out: &mut impl Write, line: &[u8]) -> io::Result<()> {
-    let mut v = [0u16; 6];
-    numbers_into(field(line, 1), &mut v);
-    let mut sig = [0u16; 16389];
-    let len = tree_into(field(line, 2), &mut sig);
-    tried(out, field(line, 0), v, front(&sig, len))
-}
-
-fn each_case(out: &mut impl Write, lines: &[u8]) -> io::Result<()> {
-    let mut from = 0;
-    while from < lines.len() {
-        let line = line_of(&lines[from..]);
-        case(out, line)?;
-        from += line.len() + 1;
-    }
-    Ok(())
 }
 
 // A read or a write that fails ends the program with its error.
 fn main(rt: HostRuntime) -> io::Result<()> {
-    let lines = read_cases(&rt)?;
-    let mut out = BufWriter::new(rt.alloc(), rt.stdout())?;
-    each_case(&mut out, lines.as_slice())?;
-    out.flush()
+    try_cases(&rt, |out, case| try_case(out, case))
 }

@@ -15,118 +15,90 @@ mod whole;
 use fits::Fit;
 use fits_rows::Stage;
 use shown::shown;
+use std::alloc::Global;
 use std::io;
-use std::io::{BufWriter, Write};
+use std::io::Write;
 use terms::PreRank;
-use trial_lines::{field, front, great, line_of, numbers_into, read_cases, room_left, size, text, tree_into};
-use whole::{ask, cuts, lent};
+use trial_lines::{Case, UnknownWord, great, room_left, tree_into, try_cases};
+use whole::Question;
 
-// What is tried, as words of a line.
-const ASK: u16 = 97;
+// What a line's first word has tried.
+#[derive(Clone, Copy)]
+enum Tried {
+    Ask,
+    Cuts,
+    Room,
+    Turn,
+}
 
-const CUTS: u16 = 99;
+impl TryFrom<u16> for Tried {
+    type Error = UnknownWord;
 
-const ROOM: u16 = 114;
-
-// The stage of a number: 0 asking, 1 at yes, 2 at no.
-fn stage_at(x: u16) -> Stage {
-    match x {
-        0 => Stage::Asking,
-        1 => Stage::Yes,
-        _ => Stage::No,
+    // A word stands for its first letter; only where there is none is nothing tried.
+    fn try_from(word: u16) -> Result<Self, UnknownWord> {
+        match u8::try_from(word) {
+            Ok(0) => Err(UnknownWord(word)),
+            Ok(b'a') => Ok(Tried::Ask),
+            Ok(b'c') => Ok(Tried::Cuts),
+            Ok(b'r') => Ok(Tried::Room),
+            _ => Ok(Tried::Turn),
+        }
     }
 }
 
-// A turn from the state of a case.
-fn one_turn(
-    out: &mut impl Write,
-    v: [u16; 6],
-    sig: &[u16],
-    twig: &[u16],
-    room: &mut [u16],
-) -> io::Result<()> {
+// Prints one turn from the state of a case in a room of the length that it gives, and hands the room back; no number of a line is too long for it.
+fn one_turn(out: &mut impl Write, question: Question, numbers: [u16; 6]) -> io::Result<Vec<u16>> {
+    let [_, length, node, entry, stage, budget] = numbers;
     let state = Fit {
-        node: v[2],
-        entry: PreRank(v[3]),
-        stage: stage_at(v[4]),
+        node,
+        entry: PreRank(entry),
+        stage: Stage::try_from(stage).unwrap_or(Stage::No),
     };
-    shown(out, state.turn(sig, twig, room, great(v[5])))
+    let mut room = question.room()?;
+    room.truncate(usize::from(length));
+    out.write_all(question.case.label())?;
+    out.write_all(b":")?;
+    shown(
+        out,
+        state.turn(
+            question.sig,
+            question.twig,
+            room.as_mut_slice(),
+            great(budget),
+        ),
+    )?;
+    Ok(room)
 }
 
-// The same, and the whole room where the case asks for it, so that the numbers are seen too which no step may touch.
-fn turn_and_room(
-    out: &mut impl Write,
-    v: [u16; 6],
-    sig: &[u16],
-    twig: &[u16],
-    room: &mut [u16],
-) -> io::Result<()> {
-    one_turn(out, v, sig, twig, room)?;
-    if v[0] == ROOM {
-        room_left(out, room)
-    } else {
-        text(out, b"\n")
+// A line whose first word names nothing to try prints nothing. The room is printed whole where the case asks for it, so that the numbers are seen too which no
+// step may touch.
+fn try_case(out: &mut impl Write, case: Case, alloc: Global) -> io::Result<()> {
+    let numbers = case.numbers::<6>();
+    let mut sig = [0; 16389];
+    let mut twig = [0; 69];
+    let question = Question {
+        alloc,
+        case,
+        sig: tree_into(case.field(2), &mut sig),
+        twig: tree_into(case.field(3), &mut twig),
+    };
+    match Tried::try_from(numbers[0]) {
+        Ok(Tried::Ask) => question.ask(out, &numbers[1..]),
+        Ok(Tried::Cuts) => question.cuts(out),
+        Ok(Tried::Room) => {
+            let room = one_turn(out, question, numbers)?;
+            room_left(out, room.as_slice())
+        }
+        Ok(Tried::Turn) => {
+            one_turn(out, question, numbers)?;
+            out.write_all(b"\n")
+        }
+        Err(_) => Ok(()),
     }
-}
-
-// One turn in a room of the length that the case gives; no number of a line is too long for it.
-fn once(
-    out: &mut impl Write,
-    line: &[u8],
-    v: [u16; 6],
-    sig: &[u16],
-    twig: &[u16],
-) -> io::Result<()> {
-    let mut room = lent(field(line, 4));
-    let length = size(v[1]);
-    text(out, field(line, 0))?;
-    text(out, b":")?;
-    if length <= 65536 {
-        turn_and_room(out, v, sig, twig, &mut room[0..length])?;
-    }
-    Ok(())
-}
-
-// A line whose second field is empty or is not there tries nothing.
-fn tried(
-    out: &mut impl Write,
-    line: &[u8],
-    v: [u16; 6],
-    sig: &[u16],
-    twig: &[u16],
-) -> io::Result<()> {
-    match v[0] {
-        0 => Ok(()),
-        ASK => ask(out, line, v, sig, twig),
-        CUTS => cuts(out, line, sig, twig),
-        _ => once(out, line, v, sig, twig),
-    }
-}
-
-fn case(out: &mut impl Write, line: &[u8]) -> io::Result<()> {
-    let mut v = [0u16; 6];
-    numbers_into(field(line, 1), &mut v);
-    let mut sig = [0u16; 16389];
-    let n = tree_into(field(line, 2), &mut sig);
-    let mut twig = [0u16; 69];
-    let m = tree_into(field(line, 3), &mut twig);
-    tried(out, line, v, front(&sig, n), front(&twig, m))
-}
-
-fn each_case(out: &mut impl Write, lines: &[u8]) -> io::Result<()> {
-    let mut from = 0;
-    while from < lines.len() {
-        let line = line_of(&lines[from..]);
-        case(out, line)?;
-        from += line.len() + 1;
-    }
-    Ok(())
 }
 
 // A read or a write that fails ends the program with its error.
 fn main(rt: HostRuntime) -> io::Result<()> {
-    let lines = read_cases(&rt)?;
-    let mut out = BufWriter::new(rt.alloc(), rt.stdout())?;
-    each_case(&mut out, lines.as_slice())?;
-    out.flush()
+    let alloc = rt.alloc();
+    try_cases(&rt, |out, case| try_case(out, case, alloc))
 }

@@ -1,19 +1,19 @@
 // Whole questions, in turns.
-use crate::shown::{came_to, shown};
+use crate::shown::shown;
 use fits::Fit;
+use std::alloc::Global;
 use std::io;
 use std::io::Write;
-use terms::Stop;
-use trial_lines::{field, great, number, numbers_into, stop_number, text};
+use terms::{Stop, Turn};
+use trial_lines::{Case, great, numbers_into};
 
-// A room for sixteen nodes on 4,096 entries, made anew for each question, so that none finds what another left: it holds the numbers of a list, and the
-// first of them in every place behind.
-pub fn lent(list: &[u8]) -> [u16; 65536] {
-    let mut first = [0u16; 1];
-    numbers_into(list, &mut first);
-    let mut room = [first[0]; 65536];
-    numbers_into(list, &mut room);
-    room
+// The question of a case, in a room that is lent anew for each run, so that none finds what another left.
+#[derive(Clone, Copy)]
+pub struct Question<'a> {
+    pub alloc: Global,
+    pub case: Case<'a>,
+    pub sig: &'a [u16],
+    pub twig: &'a [u16],
 }
 
 // How many entries a list has.
@@ -21,109 +21,88 @@ fn entries(list: &[u16]) -> u16 {
     (list.len() / 4 % 65536) as u16
 }
 
-// The state in which a question begins.
-fn begun(sig: &[u16], twig: &[u16]) -> Fit {
-    Fit::fresh(entries(twig), entries(sig))
-}
+impl Question<'_> {
+    // A room for sixteen nodes on 4,096 entries: it holds the numbers of the case's list, and the first of them in every place behind.
+    pub fn room(self) -> io::Result<Vec<u16>> {
+        let list = self.case.field(4);
+        let mut first = [0];
+        numbers_into(list, &mut first);
+        let mut room = vec![in self.alloc; first[0]; 65536]?;
+        numbers_into(list, room.as_mut_slice());
+        Ok(room)
+    }
 
-// What all turns came to.
-fn told(out: &mut impl Write, stop: Stop, sum: u64, state: Fit, turns: u64) -> io::Result<()> {
-    came_to(out, stop, sum, state)?;
-    text(out, b" turns")?;
-    number(out, turns)
-}
+    // The state in which the question begins.
+    fn begun(self) -> Fit {
+        Fit::fresh(entries(self.twig), entries(self.sig))
+    }
 
-// The turns of budget steps from a state on, each given the state and the room that the one before left. The largest question takes 656 turns here.
-fn turns(
-    out: &mut impl Write,
-    first: Fit,
-    sig: &[u16],
-    twig: &[u16],
-    room: &mut [u16],
-    budget: u64,
-) -> io::Result<()> {
-    let mut state = first;
-    let mut sum: u64 = 0;
-    for i in 0..5000u64 {
-        let turn = state.turn(sig, twig, room, budget);
-        state = turn.state;
-        sum = sum.wrapping_add(turn.steps);
-        if stop_number(turn.stop) != 2 {
-            return told(out, turn.stop, sum, state, i + 1);
+    // The turns of budget steps, each given the state and the room that the one before left. The largest question takes 656 turns here.
+    fn turns(self, out: &mut impl Write, budget: u64) -> io::Result<()> {
+        let mut room = self.room()?;
+        let mut state = self.begun();
+        let mut sum: u64 = 0;
+        for i in 1..=5000u64 {
+            let turn = state.turn(self.sig, self.twig, room.as_mut_slice(), budget);
+            sum = sum.wrapping_add(turn.steps);
+            if !matches!(turn.stop, Stop::Budget) {
+                shown(out, Turn { steps: sum, ..turn })?;
+                return write!(out, " turns {i}");
+            }
+            state = turn.state;
         }
+        out.write_all(b" too many turns")
     }
-    text(out, b" too many turns")
-}
 
-// A whole question in turns of budget steps; there is none for a budget that the case does not name.
-fn asked(
-    out: &mut impl Write,
-    line: &[u8],
-    sig: &[u16],
-    twig: &[u16],
-    budget: u64,
-) -> io::Result<()> {
-    if budget == 0 {
-        return Ok(());
+    // A whole question in turns of budget steps.
+    fn asked(self, out: &mut impl Write, budget: u64) -> io::Result<()> {
+        out.write_all(self.case.label())?;
+        write!(out, " by {budget}:")?;
+        self.turns(out, budget)?;
+        out.write_all(b"\n")
     }
-    text(out, field(line, 0))?;
-    text(out, b" by")?;
-    number(out, budget)?;
-    text(out, b":")?;
-    let mut room = lent(field(line, 4));
-    turns(out, begun(sig, twig), sig, twig, &mut room, budget)?;
-    text(out, b"\n")
-}
 
-// A whole question for each budget of the case.
-pub fn ask(
-    out: &mut impl Write,
-    line: &[u8],
-    v: [u16; 6],
-    sig: &[u16],
-    twig: &[u16],
-) -> io::Result<()> {
-    asked(out, line, sig, twig, great(v[1]))?;
-    asked(out, line, sig, twig, great(v[2]))?;
-    asked(out, line, sig, twig, great(v[3]))?;
-    asked(out, line, sig, twig, great(v[4]))?;
-    asked(out, line, sig, twig, great(v[5]))
-}
-
-// How many steps a whole question takes.
-fn steps_of(line: &[u8], sig: &[u16], twig: &[u16]) -> u64 {
-    let mut room = lent(field(line, 4));
-    let turn = begun(sig, twig).turn(sig, twig, &mut room, great(65535));
-    turn.steps
-}
-
-// A turn of a question that begins, and one with the rest of the steps, which is no step if the first told it.
-fn cut(
-    out: &mut impl Write,
-    line: &[u8],
-    sig: &[u16],
-    twig: &[u16],
-    steps: u64,
-    rest: u64,
-) -> io::Result<()> {
-    text(out, field(line, 0))?;
-    text(out, b" cut at")?;
-    number(out, steps)?;
-    text(out, b":")?;
-    let mut room = lent(field(line, 4));
-    let turn = begun(sig, twig).turn(sig, twig, &mut room, steps);
-    let state = turn.state;
-    shown(out, turn)?;
-    text(out, b" then")?;
-    shown(out, state.turn(sig, twig, &mut room, rest))?;
-    text(out, b"\n")
-}
-
-// Every cut of a question in two turns. The last of them leaves nothing for the second, which must tell the same again.
-pub fn cuts(out: &mut impl Write, line: &[u8], sig: &[u16], twig: &[u16]) -> io::Result<()> {
-    let whole = steps_of(line, sig, twig);
-    for steps in 0..whole {
-        cut(out, line, sig, twig, steps + 1, whole - (steps + 1))?;
+    // A whole question for each budget of the case; there is none for a budget that the case does not name.
+    pub fn ask(self, out: &mut impl Write, budgets: &[u16]) -> io::Result<()> {
+        for budget in budgets.iter().filter(|budget| **budget != 0) {
+            self.asked(out, great(*budget))?;
+        }
+        Ok(())
     }
-    Ok(())
+
+    // How many steps a whole question takes.
+    fn steps(self) -> io::Result<u64> {
+        let mut room = self.room()?;
+        let turn = self
+            .begun()
+            .turn(self.sig, self.twig, room.as_mut_slice(), u64::MAX);
+        Ok(turn.steps)
+    }
+
+    // A turn of a question that begins, and one with the rest of the steps, which is no step if the first told it.
+    fn cut(self, out: &mut impl Write, steps: u64, rest: u64) -> io::Result<()> {
+        out.write_all(self.case.label())?;
+        write!(out, " cut at {steps}:")?;
+        let mut room = self.room()?;
+        let turn = self
+            .begun()
+            .turn(self.sig, self.twig, room.as_mut_slice(), steps);
+        shown(out, turn)?;
+        out.write_all(b" then")?;
+        shown(
+            out,
+            turn.state
+                .turn(self.sig, self.twig, room.as_mut_slice(), rest),
+        )?;
+        out.write_all(b"\n")
+    }
+
+    // Every cut of a question in two turns. The last of them leaves nothing for the second, which must tell the same again.
+    pub fn cuts(self, out: &mut impl Write) -> io::Result<()> {
+        let whole = self.steps()?;
+        for steps in 1..=whole {
+            self.cut(out, steps, whole - steps)?;
+        }
+        Ok(())
+    }
 }

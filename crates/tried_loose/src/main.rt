@@ -12,138 +12,144 @@ mod shown;
 mod whole;
 
 use preparing::Prep;
-use shown::{shown_prep, shown_walk, started};
+use shown::{shown_prep, shown_walk};
+use starting::prepare_start;
 use std::io;
-use std::io::{BufWriter, Write};
+use std::io::Write;
 use terms::PreRank;
-use trial_lines::{field, front, great, line_of, numbers, numbers_into, read_cases, size, text, tree_into, wide};
+use trial_lines::{Case, Row, UnknownWord, great, numbers_into, told, tree_into, try_cases};
 use walk_ranges::Phase;
 use walking::Walk;
-use whole::{prepare, walk};
+use whole::{Budgets, Trees, WholeWalk};
 
-// What is tried, as words of a line.
-const START: u16 = 115;
+// What a line's first word has tried.
+#[derive(Clone, Copy)]
+enum Tried {
+    Start,
+    Prepare,
+    Walk,
+    PrepareOnce,
+    WalkOnce,
+    Table,
+}
 
-const PREPARE: u16 = 112;
+impl TryFrom<u16> for Tried {
+    type Error = UnknownWord;
 
-const WALK: u16 = 119;
-
-const PREPARE_ONCE: u16 = 80;
-
-const WALK_ONCE: u16 = 87;
-
-// The phase of a number: 0 walking, 1 at an answer, 2 ended.
-fn phase_at(x: u16) -> Phase {
-    match x {
-        0 => Phase::Walking,
-        1 => Phase::Answer,
-        _ => Phase::Ended,
+    // A word stands for its first letter; only where there is none is nothing tried.
+    fn try_from(word: u16) -> Result<Self, UnknownWord> {
+        match u8::try_from(word) {
+            Ok(0) => Err(UnknownWord(word)),
+            Ok(b's') => Ok(Tried::Start),
+            Ok(b'p') => Ok(Tried::Prepare),
+            Ok(b'w') => Ok(Tried::Walk),
+            Ok(b'P') => Ok(Tried::PrepareOnce),
+            Ok(b'W') => Ok(Tried::WalkOnce),
+            _ => Ok(Tried::Table),
+        }
     }
 }
 
-// A turn of walking from the walk of a case.
-fn walk_turn(
-    out: &mut impl Write,
-    v: [u16; 9],
-    sig: &[u16],
-    twig: &[u16],
-    table: &[u16],
-) -> io::Result<()> {
-    let mut images = [0u16; 16];
-    images[0] = v[2];
-    images[1] = v[3];
-    images[2] = v[4];
-    let state = Walk {
-        images,
-        node: v[5],
-        candidate: PreRank(v[6]),
-        phase: phase_at(v[7]),
-    };
-    shown_walk(out, state.turn(sig, twig, table, wide(v[8])))
-}
-
+// A turn of preparing from an entry on.
 fn prepare_turn(
     out: &mut impl Write,
-    v: [u16; 9],
-    sig: &[u16],
-    twig: &[u16],
+    trees: Trees,
     table: &mut [u16],
+    next: u16,
+    budget: u16,
 ) -> io::Result<()> {
     let state = Prep {
-        next: PreRank(v[2]),
+        next: PreRank(next),
     };
-    shown_prep(out, state.turn(sig, twig, table, wide(v[3])))
+    shown_prep(
+        out,
+        state.turn(trees.sig, trees.twig, table, u64::from(budget)),
+    )
+}
+
+// A turn of walking from the walk of a case: three images, node, candidate and phase, which is ended at a number over 2; and the budget.
+fn walk_turn(
+    out: &mut impl Write,
+    trees: Trees,
+    table: &[u16],
+    numbers: [u16; 7],
+) -> io::Result<()> {
+    let [first, second, third, node, candidate, phase, budget] = numbers;
+    let mut images = [0; 16];
+    images[..3].copy_from_slice(&[first, second, third]);
+    let state = Walk {
+        images,
+        node,
+        candidate: PreRank(candidate),
+        phase: Phase::try_from(phase).unwrap_or(Phase::Ended),
+    };
+    shown_walk(
+        out,
+        state.turn(trees.sig, trees.twig, table, u64::from(budget)),
+    )
 }
 
 // Prints every number of the table.
 fn tabled(out: &mut impl Write, table: &[u16]) -> io::Result<()> {
-    numbers(out, table)?;
-    text(out, b"\n")
+    writeln!(out, "{}", Row(table))
 }
 
 // A start call, with what it leaves.
-fn start(out: &mut impl Write, n: u64, table: &mut [u16]) -> io::Result<()> {
-    started(out, starting::prepare_start(n, table))?;
+fn start<W: Write>(out: &mut W, table: &mut [u16], n: u64) -> io::Result<()> {
+    told(out, prepare_start(n, table), |out, state| {
+        write!(out, " fresh {}", state.next.0)
+    })?;
     tabled(out, table)
 }
 
-fn tried(
+// What a word has tried with the numbers behind the table's length.
+fn try_word(
     out: &mut impl Write,
-    v: [u16; 9],
-    sig: &[u16],
-    twig: &[u16],
+    tried: Tried,
+    trees: Trees,
     table: &mut [u16],
+    numbers: [u16; 7],
 ) -> io::Result<()> {
-    match v[0] {
-        START => start(out, wide(v[2]), table),
-        PREPARE => prepare(out, sig, twig, table, wide(v[2]), great(v[3])),
-        WALK => walk(out, sig, twig, table, v[2], wide(v[3]), v[4] == 1),
-        PREPARE_ONCE => prepare_turn(out, v, sig, twig, table),
-        WALK_ONCE => walk_turn(out, v, sig, twig, table),
-        _ => tabled(out, table),
+    let [a, b, c, ..] = numbers;
+    match tried {
+        Tried::Start => start(out, table, u64::from(a)),
+        Tried::Prepare => trees.prepare(out, table, u64::from(a), great(b)),
+        Tried::Walk => {
+            let how = WholeWalk {
+                budgets: Budgets::from(a),
+                enough: u64::from(b),
+                print: c == 1,
+            };
+            trees.walk(out, table, how)
+        }
+        Tried::PrepareOnce => prepare_turn(out, trees, table, a, b),
+        Tried::WalkOnce => walk_turn(out, trees, table, numbers),
+        Tried::Table => tabled(out, table),
     }
 }
 
-fn case(out: &mut impl Write, line: &[u8], table: &mut [u16]) -> io::Result<()> {
-    let mut v = [0u16; 9];
-    numbers_into(field(line, 1), &mut v);
-    let mut sig = [0u16; 16388];
-    let n = tree_into(field(line, 2), &mut sig);
-    let mut twig = [0u16; 68];
-    let m = tree_into(field(line, 3), &mut twig);
-    numbers_into(field(line, 4), table);
-    if v[0] == 0 {
+// A line whose first word names nothing to try prints nothing, and its table is written all the same. A table longer than there is is not tried.
+fn try_case(out: &mut impl Write, case: Case, table: &mut [u16]) -> io::Result<()> {
+    let [word, width, a, b, c, d, e, f, g] = case.numbers::<9>();
+    let mut sig = [0; 16388];
+    let mut twig = [0; 68];
+    let trees = Trees {
+        sig: tree_into(case.field(2), &mut sig),
+        twig: tree_into(case.field(3), &mut twig),
+    };
+    numbers_into(case.field(4), table);
+    let Ok(tried) = Tried::try_from(word) else {
         return Ok(());
+    };
+    out.write_all(case.label())?;
+    match table.get_mut(..usize::from(width)) {
+        Some(lent) => try_word(out, tried, trees, lent, [a, b, c, d, e, f, g]),
+        None => Ok(()),
     }
-    text(out, field(line, 0))?;
-    let width = size(v[1]);
-    if width <= table.len() {
-        tried(
-            out,
-            v,
-            front(&sig, n),
-            front(&twig, m),
-            &mut table[0..width],
-        )?;
-    }
-    Ok(())
-}
-
-fn each_case(out: &mut impl Write, lines: &[u8], table: &mut [u16]) -> io::Result<()> {
-    let mut from = 0;
-    while from < lines.len() {
-        let line = line_of(&lines[from..]);
-        case(out, line, table)?;
-        from += line.len() + 1;
-    }
-    Ok(())
 }
 
 // A read or a write that fails ends the program with its error.
 fn main(rt: HostRuntime) -> io::Result<()> {
-    let lines = read_cases(&rt)?;
-    let mut out = BufWriter::new(rt.alloc(), rt.stdout())?;
-    let mut table = [0u16; 8192];
-    each_case(&mut out, lines.as_slice(), &mut table)?;
-    out.flush()
+    let mut table = [0; 8192];
+    try_cases(&rt, |out, case| try_case(out, case, &mut table))
 }

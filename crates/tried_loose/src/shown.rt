@@ -1,48 +1,30 @@
 // Printing: what a turn handed back, in numbers.
-
-use terms::{Refusal, Turn};
+use preparing::Prep;
 use std::io;
 use std::io::Write;
-use trial_lines::{number, numbers, refused, stopped, text, wide};
-use walk_ranges::Phase;
+use terms::Turn;
+use trial_lines::{Row, came_to};
 use walking::Walk;
 
+// What stopped a turn of preparing, its steps, and the next entry.
 pub fn shown_prep(out: &mut impl Write, turn: Turn<Prep>) -> io::Result<()> {
-    stopped(out, turn.stop)?;
-    number(out, turn.steps)?;
-    number(out, wide(turn.state.next.0))?;
-    text(out, b"\n")
+    came_to(out, turn.stop, turn.steps, &[turn.state.next.0])?;
+    out.write_all(b"\n")
 }
 
-fn phase_number(phase: Phase) -> u64 {
-    match phase {
-        Phase::Walking => 0,
-        Phase::Answer => 1,
-        Phase::Ended => 2,
-    }
-}
-
-fn shown_state(out: &mut impl Write, walk: Walk) -> io::Result<()> {
-    number(out, wide(walk.node))?;
-    number(out, wide(walk.candidate.0))?;
-    number(out, phase_number(walk.phase))?;
-    let images = walk.images;
-    numbers(out, &images)
-}
-
+// What stopped a turn of walking, its steps, and node, candidate, phase and images of its state.
 pub fn shown_walk(out: &mut impl Write, turn: Turn<Walk>) -> io::Result<()> {
-    stopped(out, turn.stop)?;
-    number(out, turn.steps)?;
-    shown_state(out, turn.walk)?;
-    text(out, b"\n")
-}
-
-pub fn started(out: &mut impl Write, start: Result<Prep, Refusal>) -> io::Result<()> {
-    match start {
-        Ok(state) => {
-            text(out, b" fresh")?;
-            number(out, wide(state.next.0))
-        }
-        Err(refusal) => refused(out, refusal),
-    }
+    let Walk {
+        images,
+        node,
+        candidate,
+        phase,
+    } = turn.state;
+    came_to(
+        out,
+        turn.stop,
+        turn.steps,
+        &[node, candidate.0, u16::from(phase)],
+    )?;
+    writeln!(out, "{}", Row(&images))
 }

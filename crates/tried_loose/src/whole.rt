@@ -1,74 +1,52 @@
 // Whole preparations and whole walks, in turns.
-use crate::shown::shown_walk;
+use crate::shown::{shown_prep, shown_walk};
 use preparing::Prep;
+use starting::prepare_start;
 use std::io;
 use std::io::Write;
-use terms::{PreRank, Stop, Turn};
-use trial_lines::{number, stop_number, stopped, text, wide};
+use terms::{Stop, Turn};
+use trial_lines::stopped;
 use walking::Walk;
 
-// Prepares the whole table in turns of budget steps.
-pub fn prepare(
-    out: &mut impl Write,
-    sig: &[u16],
-    twig: &[u16],
-    table: &mut [u16],
-    n: u64,
-    budget: u64,
-) -> io::Result<()> {
-    let start = starting::prepare_start(n, table);
-    let Ok(fresh) = start else {
-        return text(out, b"not started\n");
-    };
-    prepare_from(out, sig, twig, table, fresh.next.0, budget)
+// The trees that a case asks about.
+#[derive(Clone, Copy)]
+pub struct Trees<'a> {
+    pub sig: &'a [u16],
+    pub twig: &'a [u16],
 }
 
-// The turns from entry first on; says the last turn's stop, the sum of the steps and the state.
-fn prepare_from(
-    out: &mut impl Write,
-    sig: &[u16],
-    twig: &[u16],
-    table: &mut [u16],
-    first: u16,
-    budget: u64,
-) -> io::Result<()> {
-    let mut next = first;
-    let mut sum: u64 = 0;
-    for _ in 0..5000u16 {
-        let state = Prep {
-            next: PreRank(next),
-        };
-        let turn = state.turn(sig, twig, table, budget);
-        next = turn.state.next.0;
-        sum = sum.wrapping_add(turn.steps);
-        if stop_number(turn.stop) != 2 {
-            return prepared(out, turn.stop, sum, next);
+// How many steps the turns of a whole walk are given.
+#[derive(Clone, Copy)]
+pub enum Budgets {
+    Steps(u16),
+    Seeded,
+    Greatest,
+}
+
+impl From<u16> for Budgets {
+    // Of a line's number: up to 3 that many steps, 4 seeded, else the greatest number.
+    fn from(kind: u16) -> Budgets {
+        match kind {
+            0..=3 => Budgets::Steps(kind),
+            4 => Budgets::Seeded,
+            _ => Budgets::Greatest,
         }
     }
-    text(out, b"too many turns\n")
 }
 
-fn prepared(out: &mut impl Write, stop: Stop, sum: u64, next: u16) -> io::Result<()> {
-    text(out, b"prepared")?;
-    stopped(out, stop)?;
-    number(out, sum)?;
-    number(out, wide(next))?;
-    text(out, b"\n")
-}
-
-// A budget of the given kind: 1 to 3 that many steps, 4 seeded, else the greatest number.
-fn spend(kind: u16, seed: u64) -> u64 {
-    if kind <= 3 {
-        return wide(kind);
+impl Budgets {
+    // The budget of a turn.
+    fn spend(self, seed: u16) -> u64 {
+        match self {
+            Budgets::Steps(steps) => u64::from(steps),
+            Budgets::Seeded => u64::from(seed % 7 + 1),
+            Budgets::Greatest => u64::MAX,
+        }
     }
-    if kind == 4 {
-        return seed % 7 + 1;
-    }
-    u64::MAX
 }
 
-fn next_seed(seed: u64) -> u64 {
-    ((seed % 65536) * 25173 + 13849) % 65536
+fn next_seed(seed: u16) -> u16 {
+    seed.wrapping_mul(25173).wrapping_add(13849)
 }
 
 // What a whole walk came to: its answers, its steps, those since the last answer, and the most there were between two answers.
@@ -80,98 +58,135 @@ struct Tally {
     most: u64,
 }
 
-// The tally after a turn that the number says the stop of.
-fn counted(tally: Tally, steps: u64, stop: u64) -> Tally {
-    let sum = tally.sum.wrapping_add(steps);
-    let gap = tally.gap.wrapping_add(steps);
-    let answers = tally.answers;
-    let most = tally.most;
-    if stop == 2 {
-        return Tally {
-            answers,
+impl Tally {
+    // The tally after a turn.
+    fn counted(self, turn: Turn<Walk>) -> Tally {
+        let sum = self.sum.wrapping_add(turn.steps);
+        let gap = self.gap.wrapping_add(turn.steps);
+        if matches!(turn.stop, Stop::Budget) {
+            return Tally { sum, gap, ..self };
+        }
+        Tally {
+            answers: self
+                .answers
+                .wrapping_add(u64::from(matches!(turn.stop, Stop::Answer))),
             sum,
-            gap,
-            most,
-        };
-    }
-    Tally {
-        answers: answers.wrapping_add(if stop == 0 { 1 } else { 0 }),
-        sum,
-        gap: 0,
-        most: if gap < most { most } else { gap },
-    }
-}
-
-// Whether a walk goes on after a stop: not after the end or a refusal, and not with enough answers.
-fn goes_on(stop: u64, answers: u64, enough: u64) -> bool {
-    if stop == 2 {
-        return true;
-    }
-    if stop != 0 {
-        return false;
-    }
-    answers < enough
-}
-
-// Prints where a turn came to, if asked and unless its budget stopped it.
-fn reported(out: &mut impl Write, turn: Turn<Walk>, stop: u64, print: bool) -> io::Result<()> {
-    if print & (stop != 2) {
-        text(out, b"at")?;
-        shown_walk(out, turn)?;
-    }
-    Ok(())
-}
-
-// Walks from the fresh walk to the end, or to the given number of answers, in turns of the given kind. Prints the answers if asked, then what stopped
-// the last turn, the number of answers, the steps in all, and the most steps from the start or an answer to the next answer or the end, beside 2×m×n+1.
-pub fn walk(
-    out: &mut impl Write,
-    sig: &[u16],
-    twig: &[u16],
-    table: &[u16],
-    kind: u16,
-    enough: u64,
-    print: bool,
-) -> io::Result<()> {
-    let mut state = Walk::fresh();
-    let mut tally = Tally {
-        answers: 0,
-        sum: 0,
-        gap: 0,
-        most: 0,
-    };
-    let mut seed: u64 = 4711;
-    for _ in 0..4000000u32 {
-        seed = next_seed(seed);
-        let turn = state.turn(sig, twig, table, spend(kind, seed));
-        let how = stop_number(turn.stop);
-        state = turn.walk;
-        tally = counted(tally, turn.steps, how);
-        reported(out, turn, how, print)?;
-        if !goes_on(how, tally.answers, enough) {
-            return walked(out, tally, turn.stop, limit(sig.len() / 4, twig.len() / 4));
+            gap: 0,
+            most: gap.max(self.most),
         }
     }
-    text(out, b"too many turns\n")
 }
 
-fn walked(out: &mut impl Write, tally: Tally, stop: Stop, most: u64) -> io::Result<()> {
-    text(out, b"walked")?;
-    stopped(out, stop)?;
-    number(out, tally.answers)?;
-    number(out, tally.sum)?;
-    number(out, tally.most)?;
-    number(out, most)?;
-    text(out, b"\n")
+// How a whole walk goes: the budgets of its turns, how many answers are enough, and whether each is printed.
+#[derive(Clone, Copy)]
+pub struct WholeWalk {
+    pub budgets: Budgets,
+    pub enough: u64,
+    pub print: bool,
 }
 
-// 2×m×n+1
-fn limit(n: usize, m: usize) -> u64 {
-    if 4096 < n {
-        return 0;
+impl WholeWalk {
+    // Whether a walk goes on after a stop: not after the end or a refusal, and not with enough answers.
+    fn goes_on(self, stop: Stop, answers: u64) -> bool {
+        match stop {
+            Stop::Budget => true,
+            Stop::Answer => answers < self.enough,
+            Stop::End | Stop::Refused(_) => false,
+        }
     }
-    if 16 < m {
-        return 0;
+
+    // Prints where a turn came to, if asked and unless its budget stopped it.
+    fn reported(self, out: &mut impl Write, turn: Turn<Walk>) -> io::Result<()> {
+        if !self.print || matches!(turn.stop, Stop::Budget) {
+            return Ok(());
+        }
+        out.write_all(b"at")?;
+        shown_walk(out, turn)
     }
-    (2 * m * n + 1) as u64
+}
+
+impl Trees<'_> {
+    // Prepares the whole table in turns of budget steps.
+    pub fn prepare(
+        self,
+        out: &mut impl Write,
+        table: &mut [u16],
+        n: u64,
+        budget: u64,
+    ) -> io::Result<()> {
+        match prepare_start(n, table) {
+            Ok(fresh) => self.prepare_from(out, table, fresh, budget),
+            Err(_) => out.write_all(b"not started\n"),
+        }
+    }
+
+    // The turns from a state on; says the last turn's stop, the sum of the steps and the state.
+    fn prepare_from(
+        self,
+        out: &mut impl Write,
+        table: &mut [u16],
+        fresh: Prep,
+        budget: u64,
+    ) -> io::Result<()> {
+        let mut state = fresh;
+        let mut sum: u64 = 0;
+        for _ in 0..5000u16 {
+            let turn = state.turn(self.sig, self.twig, table, budget);
+            sum = sum.wrapping_add(turn.steps);
+            if !matches!(turn.stop, Stop::Budget) {
+                out.write_all(b"prepared")?;
+                return shown_prep(out, Turn { steps: sum, ..turn });
+            }
+            state = turn.state;
+        }
+        out.write_all(b"too many turns\n")
+    }
+
+    // Walks from the fresh walk to the end, or to the given number of answers. Prints the answers if asked, then what stopped the last turn, the number of
+    // answers, the steps in all, and the most steps from the start or an answer to the next answer or the end, beside 2×m×n+1.
+    pub fn walk(self, out: &mut impl Write, table: &[u16], how: WholeWalk) -> io::Result<()> {
+        let mut state = Walk::fresh();
+        let mut tally = Tally {
+            answers: 0,
+            sum: 0,
+            gap: 0,
+            most: 0,
+        };
+        let mut seed: u16 = 4711;
+        for _ in 0..4000000u32 {
+            seed = next_seed(seed);
+            let turn = state.turn(self.sig, self.twig, table, how.budgets.spend(seed));
+            state = turn.state;
+            tally = tally.counted(turn);
+            how.reported(out, turn)?;
+            if !how.goes_on(turn.stop, tally.answers) {
+                return self.walked(out, turn.stop, tally);
+            }
+        }
+        out.write_all(b"too many turns\n")
+    }
+
+    // What a whole walk came to.
+    fn walked(self, out: &mut impl Write, stop: Stop, tally: Tally) -> io::Result<()> {
+        out.write_all(b"walked")?;
+        stopped(out, stop)?;
+        let Tally {
+            answers,
+            sum,
+            most,
+            ..
+        } = tally;
+        writeln!(out, " {answers} {sum} {most} {}", self.limit())
+    }
+
+    // 2×m×n+1, or 0 of trees that are too large.
+    fn limit(self) -> usize {
+        let n = self.sig.len() / 4;
+        let m = self.twig.len() / 4;
+        if n <= 4096 && m <= 16 {
+            2 * m * n + 1
+        } else {
+            0
+        }
+    }
 }

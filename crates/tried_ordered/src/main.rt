@@ -4,152 +4,121 @@
 // `call` one call); the signature, the twig, the tuple, and what the room holds before the call.
 #![tactic(auto)]
 
+use ordered::ordered_next;
 use std::io;
-use std::io::{BufWriter, Write};
-use trial_lines::{field, front, line_of, number, numbers, numbers_into, read_cases, room_left, text, told, tree_into, wide};
+use std::io::Write;
+use trial_lines::{
+    Case, Row, UnknownWord, front, length_told, numbers_into, room_left, tree_into, try_cases,
+};
 
-// What is tried, as words of a line.
-const PAIRS: u16 = 112;
-
-const CALL: u16 = 99;
-
-// An answer to hand back, or the end.
+// What a line's first word has tried.
 #[derive(Clone, Copy)]
-struct Given {
-    tuple: [u16; 16],
-    more: bool,
+enum Tried {
+    Answers,
+    Pairs,
+    Call,
 }
 
-// The answer after a tuple, printed.
-fn one_more(
-    out: &mut impl Write,
-    sig: &[u16],
-    twig: &[u16],
-    tuple: [u16; 16],
-) -> io::Result<Given> {
-    let mut room = [0u16; 16];
-    let m = twig.len() / 4;
-    let answer = ordered::ordered_next(sig, twig, front(&tuple, m), &mut room);
-    match answer {
-        Ok(len) => {
-            if len == 0 {
-                text(out, b"none\n")?;
-                return Ok(Given { tuple, more: false });
+impl TryFrom<u16> for Tried {
+    type Error = UnknownWord;
+
+    // A word stands for its first letter; only where there is none is nothing tried.
+    fn try_from(word: u16) -> Result<Self, UnknownWord> {
+        match u8::try_from(word) {
+            Ok(0) => Err(UnknownWord(word)),
+            Ok(b'p') => Ok(Tried::Pairs),
+            Ok(b'c') => Ok(Tried::Call),
+            _ => Ok(Tried::Answers),
+        }
+    }
+}
+
+// The trees that a case asks about.
+#[derive(Clone, Copy)]
+struct Trees<'a> {
+    sig: &'a [u16],
+    twig: &'a [u16],
+}
+
+impl Trees<'_> {
+    // Prints every answer from zeros on, each handed back; no tree tried here has 100.
+    fn list_answers(self, out: &mut impl Write) -> io::Result<()> {
+        let mut tuple = [0; 16];
+        for _ in 0..100u16 {
+            let mut room = [0; 16];
+            let handed = front(&tuple, self.twig.len() / 4);
+            match ordered_next(self.sig, self.twig, handed, &mut room) {
+                Ok(0) => return out.write_all(b"none\n"),
+                Ok(len) => writeln!(out, "{}", Row(front(&room, len)))?,
+                Err(_) => return out.write_all(b"refused\n"),
             }
-            numbers(out, front(&room, len))?;
-            text(out, b"\n")?;
-            Ok(Given {
-                tuple: room,
-                more: true,
-            })
+            tuple = room;
         }
-        Err(_) => {
-            text(out, b"refused\n")?;
-            Ok(Given { tuple, more: false })
+        out.write_all(b"more\n")
+    }
+
+    // Prints what follows a tuple of two numbers.
+    fn follow(self, out: &mut impl Write, tuple: [u16; 2]) -> io::Result<()> {
+        write!(out, "{} :", Row(&tuple))?;
+        let mut room = [0; 2];
+        match ordered_next(self.sig, self.twig, &tuple, &mut room) {
+            Ok(len) => writeln!(out, "{}", Row(front(&room, len))),
+            Err(refusal) => writeln!(out, " {} refused", refusal.number),
         }
     }
-}
 
-// Every answer from zeros on, each handed back; no tree tried here has 100.
-fn listed(out: &mut impl Write, sig: &[u16], twig: &[u16]) -> io::Result<()> {
-    let mut tuple = [0u16; 16];
-    for _ in 0..100u16 {
-        let given = one_more(out, sig, twig, tuple)?;
-        if !given.more {
+    // The same of every two numbers up to 6.
+    fn follow_all(self, out: &mut impl Write) -> io::Result<()> {
+        for i in 0..49u16 {
+            self.follow(out, [i / 7, i % 7])?;
+        }
+        Ok(())
+    }
+
+    // Prints what one call says, with the room that it leaves; a list too long for the room is not tried.
+    fn call(self, out: &mut impl Write, case: Case) -> io::Result<()> {
+        let mut tuple = [0; 16];
+        let len = numbers_into(case.field(4), &mut tuple);
+        let mut room = [0; 17];
+        let width = numbers_into(case.field(5), &mut room);
+        let Some(lent) = room.get_mut(..width) else {
             return Ok(());
+        };
+        length_told(
+            out,
+            ordered_next(self.sig, self.twig, front(&tuple, len), lent),
+        )?;
+        room_left(out, lent)
+    }
+}
+
+// A line whose first word names nothing to try prints nothing.
+fn try_case(out: &mut impl Write, case: Case) -> io::Result<()> {
+    let [word] = case.numbers::<1>();
+    let mut sig = [0; 16384];
+    let mut twig = [0; 64];
+    let trees = Trees {
+        sig: tree_into(case.field(2), &mut sig),
+        twig: tree_into(case.field(3), &mut twig),
+    };
+    let Ok(tried) = Tried::try_from(word) else {
+        return Ok(());
+    };
+    out.write_all(case.label())?;
+    match tried {
+        Tried::Call => trees.call(out, case),
+        Tried::Pairs => {
+            out.write_all(b"\n")?;
+            trees.follow_all(out)
         }
-        tuple = given.tuple;
-    }
-    text(out, b"more\n")
-}
-
-// What follows a tuple of two numbers.
-fn after(out: &mut impl Write, sig: &[u16], twig: &[u16], a: u16, b: u16) -> io::Result<()> {
-    let tuple = [a, b];
-    let mut room = [0u16; 2];
-    numbers(out, &tuple)?;
-    text(out, b" :")?;
-    let answer = ordered::ordered_next(sig, twig, &tuple, &mut room);
-    match answer {
-        Ok(len) => numbers(out, front(&room, len))?,
-        Err(refusal) => {
-            number(out, wide(refusal.number))?;
-            text(out, b" refused")?;
+        Tried::Answers => {
+            out.write_all(b"\n")?;
+            trees.list_answers(out)
         }
     }
-    text(out, b"\n")
-}
-
-fn all_pairs(out: &mut impl Write, sig: &[u16], twig: &[u16]) -> io::Result<()> {
-    for i in 0..49u16 {
-        after(out, sig, twig, i / 7, i % 7)?;
-    }
-    Ok(())
-}
-
-// What one call says, with the room that it leaves.
-fn asked(
-    out: &mut impl Write,
-    sig: &[u16],
-    twig: &[u16],
-    tuple: &[u16],
-    room: &mut [u16],
-) -> io::Result<()> {
-    told(out, ordered::ordered_next(sig, twig, tuple, room))?;
-    room_left(out, room)
-}
-
-fn one_call(out: &mut impl Write, line: &[u8], sig: &[u16], twig: &[u16]) -> io::Result<()> {
-    let mut tuple = [0u16; 16];
-    let len = numbers_into(field(line, 4), &mut tuple);
-    let mut room = [0u16; 17];
-    let width = numbers_into(field(line, 5), &mut room);
-    if width <= 17 {
-        asked(out, sig, twig, front(&tuple, len), &mut room[0..width])?;
-    }
-    Ok(())
-}
-
-fn tried(out: &mut impl Write, line: &[u8], how: u16, sig: &[u16], twig: &[u16]) -> io::Result<()> {
-    text(out, field(line, 0))?;
-    if how == CALL {
-        return one_call(out, line, sig, twig);
-    }
-    text(out, b"\n")?;
-    if how == PAIRS {
-        all_pairs(out, sig, twig)
-    } else {
-        listed(out, sig, twig)
-    }
-}
-
-fn case(out: &mut impl Write, line: &[u8]) -> io::Result<()> {
-    let mut v = [0u16; 1];
-    numbers_into(field(line, 1), &mut v);
-    let mut sig = [0u16; 16384];
-    let n = tree_into(field(line, 2), &mut sig);
-    let mut twig = [0u16; 64];
-    let m = tree_into(field(line, 3), &mut twig);
-    if 0 < v[0] {
-        tried(out, line, v[0], front(&sig, n), front(&twig, m))?;
-    }
-    Ok(())
-}
-
-fn each_case(out: &mut impl Write, lines: &[u8]) -> io::Result<()> {
-    let mut from = 0;
-    while from < lines.len() {
-        let line = line_of(&lines[from..]);
-        case(out, line)?;
-        from += line.len() + 1;
-    }
-    Ok(())
 }
 
 // A read or a write that fails ends the program with its error.
 fn main(rt: HostRuntime) -> io::Result<()> {
-    let lines = read_cases(&rt)?;
-    let mut out = BufWriter::new(rt.alloc(), rt.stdout())?;
-    each_case(&mut out, lines.as_slice())?;
-    out.flush()
+    try_cases(&rt, |out, case| try_case(out, case))
 }

@@ -8,139 +8,161 @@
 
 mod lists;
 
-use lists::{bytes_into, front_bytes, octets};
+use lists::{Made, bytes_of};
+use record_writing::write_records;
+use records::read_records;
+use std::alloc::Global;
 use std::io;
-use std::io::{BufWriter, Write};
-use terms::{Kind, Refusal};
-use trial_lines::{field, front, kind_of, line_of, number, numbers, numbers_into, read_cases, refused, room_left, size, text, told, tree_into};
+use std::io::Write;
+use tag_lists::{read_tree, tags_to_signature};
+use tag_writing::signature_to_tags;
+use terms::Kind;
+use trial_lines::{
+    Case, Row, UnknownWord, kind_of, length_told, room_left, told, tree_into, try_cases,
+};
 
-// What is tried, as words of a line.
-const READ: u16 = 114;
+// What a line's first word has tried.
+#[derive(Clone, Copy)]
+enum Tried {
+    Read,
+    Write,
+}
 
-const RECORDS: u16 = 114;
+impl TryFrom<u16> for Tried {
+    type Error = UnknownWord;
 
-const ONE: u16 = 111;
-
-fn told_tree(out: &mut impl Write, answer: Result<(usize, usize), Refusal>) -> io::Result<()> {
-    match answer {
-        Ok((len, end)) => {
-            told(out, Ok(len))?;
-            text(out, b" end")?;
-            number(out, end as u64)
+    // A word stands for its first letter; only where there is none is nothing tried.
+    fn try_from(word: u16) -> Result<Self, UnknownWord> {
+        match u8::try_from(word) {
+            Ok(0) => Err(UnknownWord(word)),
+            Ok(b'r') => Ok(Tried::Read),
+            _ => Ok(Tried::Write),
         }
-        Err(refusal) => refused(out, refusal),
     }
 }
 
-// What the room holds: all of it, nothing, or what stands from a place on.
-fn left(out: &mut impl Write, room: &[u16], from: usize) -> io::Result<()> {
-    if from == 0 {
-        return room_left(out, room);
-    }
-    if from < room.len() {
-        text(out, b" then")?;
-        numbers(out, &room[from..])?;
-    }
-    text(out, b"\n")
+// What is read or written.
+#[derive(Clone, Copy)]
+enum Form {
+    Records,
+    // One tree of a tag list.
+    One,
+    Tags(Kind),
 }
 
-// A place in the bytes: 65,535 stands for one that no list reaches.
-fn place(x: u16) -> usize {
-    if x == 65535 {
-        9223372036854775807
-    } else {
-        x as usize
-    }
-}
-
-fn read(out: &mut impl Write, v: [u16; 7], bytes: &[u8], room: &mut [u16]) -> io::Result<()> {
-    match v[1] {
-        RECORDS => told(out, records::read_records(bytes, room)),
-        ONE => told_tree(
-            out,
-            tag_lists::read_tree(Kind::Data, bytes, place(v[3]), room),
-        ),
-        _ => told(
-            out,
-            tag_lists::tags_to_signature(kind_of(v[1]), bytes, room),
-        ),
+impl From<u16> for Form {
+    // By a word's first letter.
+    fn from(word: u16) -> Form {
+        match u8::try_from(word) {
+            Ok(b'r') => Form::Records,
+            Ok(b'o') => Form::One,
+            _ => Form::Tags(kind_of(word)),
+        }
     }
 }
 
-fn read_in(out: &mut impl Write, v: [u16; 7], bytes: &[u8], room: &mut [u16]) -> io::Result<()> {
-    read(out, v, bytes, room)?;
-    left(out, room, size(v[4]))
+// How the records or tags are read or written: their form, the place to read from, and where the printing of the room begins.
+#[derive(Clone, Copy)]
+struct Way {
+    form: Form,
+    place: u16,
+    from: u16,
 }
 
-fn reading(out: &mut impl Write, v: [u16; 7], list: &[u8]) -> io::Result<()> {
-    let mut bytes = [0u8; 40970];
-    let len = bytes_into(v, list, &mut bytes);
-    let mut room = [9u16; 16390];
-    let width = size(v[2]);
-    if width <= 16390 {
-        read_in(out, v, front_bytes(&bytes, len), &mut room[0..width])?;
+impl Way {
+    // The place in the bytes: 65,535 stands for one that no list reaches.
+    fn place(self) -> usize {
+        if self.place == u16::MAX {
+            usize::MAX / 2
+        } else {
+            usize::from(self.place)
+        }
     }
-    Ok(())
-}
 
-fn write(out: &mut impl Write, form: u16, sig: &[u16], room: &mut [u8]) -> io::Result<()> {
-    if form == RECORDS {
-        told(out, record_writing::write_records(sig, room))
-    } else {
-        told(
-            out,
-            tag_writing::signature_to_tags(kind_of(form), sig, room),
-        )
+    // Prints what the room holds to the line's end: all of it, nothing, or what stands from a place on.
+    fn left(self, out: &mut impl Write, room: &[u16]) -> io::Result<()> {
+        match room.get(usize::from(self.from)..) {
+            _ if self.from == 0 => room_left(out, room),
+            Some(rest) if !rest.is_empty() => writeln!(out, " then{}", Row(rest)),
+            _ => out.write_all(b"\n"),
+        }
+    }
+
+    // Reads bytes into a room, and prints what came of it.
+    fn read<W: Write>(self, out: &mut W, bytes: &[u8], room: &mut [u16]) -> io::Result<()> {
+        match self.form {
+            Form::Records => length_told(out, read_records(bytes, room))?,
+            Form::Tags(kind) => length_told(out, tags_to_signature(kind, bytes, room))?,
+            Form::One => {
+                let answer = read_tree(Kind::Data, bytes, self.place(), room);
+                told(
+                    out,
+                    answer,
+                    |out, (len, end)| write!(out, " length {len} end {end}"),
+                )?;
+            }
+        }
+        self.left(out, room)
+    }
+
+    // Writes a signature into a room of bytes, and prints what came of it.
+    fn write(self, out: &mut impl Write, sig: &[u16], room: &mut [u8]) -> io::Result<()> {
+        let answer = match self.form {
+            Form::Records => write_records(sig, room),
+            Form::One => signature_to_tags(Kind::Data, sig, room),
+            Form::Tags(kind) => signature_to_tags(kind, sig, room),
+        };
+        length_told(out, answer)?;
+        if self.from == 0 {
+            write!(out, " room{}", Row(room))?;
+        }
+        out.write_all(b"\n")
     }
 }
 
-fn write_in(out: &mut impl Write, v: [u16; 7], sig: &[u16], room: &mut [u8]) -> io::Result<()> {
-    write(out, v[1], sig, room)?;
-    if v[4] == 0 {
-        octets(out, room)?;
+// Reads what a case lists, or what is made of n elements; a room longer than there is is not tried.
+fn reading(out: &mut impl Write, way: Way, bytes: &[u8], width: u16) -> io::Result<()> {
+    let mut room = [9; 16390];
+    match room.get_mut(..usize::from(width)) {
+        Some(lent) => way.read(out, bytes, lent),
+        None => Ok(()),
     }
-    text(out, b"\n")
 }
 
-fn writing(out: &mut impl Write, v: [u16; 7], list: &[u8]) -> io::Result<()> {
-    let mut sig = [0u16; 16388];
-    let len = tree_into(list, &mut sig);
-    let mut room = [9u8; 40970];
-    let width = size(v[2]);
-    if width <= 40970 {
-        write_in(out, v, front(&sig, len), &mut room[0..width])?;
+// Writes the signature that a case lists; a room longer than there is is not tried.
+fn writing(out: &mut impl Write, way: Way, list: &[u8], width: u16) -> io::Result<()> {
+    let mut sig = [0; 16388];
+    let sig = tree_into(list, &mut sig);
+    let mut room = [9; 40970];
+    match room.get_mut(..usize::from(width)) {
+        Some(lent) => way.write(out, sig, lent),
+        None => Ok(()),
     }
-    Ok(())
 }
 
-fn case(out: &mut impl Write, line: &[u8]) -> io::Result<()> {
-    let mut v = [0u16; 7];
-    numbers_into(field(line, 1), &mut v);
-    if v[0] == 0 {
+// A line whose first word names nothing to try prints nothing.
+fn try_case(out: &mut impl Write, case: Case, alloc: Global) -> io::Result<()> {
+    let [word, form, width, place, from, made, n] = case.numbers::<7>();
+    let Ok(tried) = Tried::try_from(word) else {
         return Ok(());
+    };
+    out.write_all(case.label())?;
+    let way = Way {
+        form: Form::from(form),
+        place,
+        from,
+    };
+    match tried {
+        Tried::Read => {
+            let bytes = bytes_of(alloc, Made::from(made), n, case.field(2))?;
+            reading(out, way, bytes.as_slice(), width)
+        }
+        Tried::Write => writing(out, way, case.field(2), width),
     }
-    text(out, field(line, 0))?;
-    if v[0] == READ {
-        reading(out, v, field(line, 2))
-    } else {
-        writing(out, v, field(line, 2))
-    }
-}
-
-fn each_case(out: &mut impl Write, lines: &[u8]) -> io::Result<()> {
-    let mut from = 0;
-    while from < lines.len() {
-        let line = line_of(&lines[from..]);
-        case(out, line)?;
-        from += line.len() + 1;
-    }
-    Ok(())
 }
 
 // A read or a write that fails ends the program with its error.
 fn main(rt: HostRuntime) -> io::Result<()> {
-    let lines = read_cases(&rt)?;
-    let mut out = BufWriter::new(rt.alloc(), rt.stdout())?;
-    each_case(&mut out, lines.as_slice())?;
-    out.flush()
+    let alloc = rt.alloc();
+    try_cases(&rt, |out, case| try_case(out, case, alloc))
 }

@@ -6,9 +6,9 @@ ghost use Rattle.twig_calls.specs.Ordered.{OrderedNumbers};
 ghost use Rattle.twig_calls.specs.Prepare.{StartNumbers, PrepareTurnPromise};
 ghost use Rattle.twig_calls.specs.Walk.{WalkFreshPromise, WalkTurnPromise};
 
-use calls_fits::{fit_of, tell_fit};
-use telling::{prepare_of, tell_prepare, tell_start, tell_written};
-use walk_numbers::{numbers_of, tell_walk, walk_of};
+use fits::Fit;
+use preparing::Prep;
+use telling::{Saved, tell, tell_turn};
 use walking::Walk;
 
 // The least ordered answer greater than the tuple. out: m, or 0 for none, entry.
@@ -22,8 +22,7 @@ pub fn ordered_next(
     ensures { OrderedNumbers sig.now twig.now tuple.now room.old result room.new
         out.new }
 {
-    let answer = ordered::ordered_next(sig, twig, tuple, room);
-    tell_written(answer, out)
+    tell(ordered::ordered_next(sig, twig, tuple, room), out)
 }
 
 // A turn of the ordered question on a lent state: node, entry, stage. out: stop, steps, entry.
@@ -38,17 +37,15 @@ pub fn fits_turn(
     ensures { FitsTurnPromise sig.now twig.now room.old state.old budget result
         room.new state.new out.new }
 {
-    let given = *state;
-    let turned = fit_of(given).turn(sig, twig, room, budget);
-    tell_fit(given, turned, state, out)
+    let turned = Fit::from_numbers(state).turn(sig, twig, room, budget);
+    tell_turn(turned, state, out)
 }
 
 // The start call of preparing. out: the fresh state.
 pub fn prepare_start(n: u64, table: &mut [u16], out: &mut [u64; 1]) -> u16
     ensures { StartNumbers n table.old result table.new out.new }
 {
-    let answer = starting::prepare_start(n, table);
-    tell_start(answer, out)
+    tell(starting::prepare_start(n, table), out)
 }
 
 // A turn of preparing on a lent state: the next entry. out: stop, steps, entry.
@@ -63,18 +60,15 @@ pub fn prepare_turn(
     ensures { PrepareTurnPromise sig.now twig.now table.old state.old budget result
         table.new state.new out.new }
 {
-    let given = prepare_of(*state);
-    let turned = given.turn(sig, twig, table, budget);
-    tell_prepare(turned, state, out)
+    let turned = Prep::from_numbers(state).turn(sig, twig, table, budget);
+    tell_turn(turned, state, out)
 }
 
 // The state of a walk that begins.
 pub fn walk_fresh(state: &mut [u16; 19]) -> u16
     ensures { WalkFreshPromise result state.new }
 {
-    let walk = Walk::fresh();
-    let numbers = numbers_of(walk);
-    *state = numbers;
+    *state = Walk::fresh().numbers();
     0
 }
 
@@ -90,7 +84,6 @@ pub fn walk_turn(
     ensures { WalkTurnPromise sig.now twig.now table.now state.old budget result
         state.new out.new }
 {
-    let given = *state;
-    let turned = walk_of(given).turn(sig, twig, table, budget);
-    tell_walk(given, turned, state, out)
+    let turned = Walk::from_numbers(state).turn(sig, twig, table, budget);
+    tell_turn(turned, state, out)
 }

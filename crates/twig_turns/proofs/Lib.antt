@@ -1,3 +1,2 @@
--- Laws of what turns with a twig judge first, and of their stops.
+-- Laws of what turns with a twig judge first.
 pub mod Judged
-pub mod Halting

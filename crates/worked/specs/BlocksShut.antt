@@ -258,14 +258,14 @@ unfolding pre run turn_within length_fault in_range step_of close_of nameless se
     up_to met parent_of on_axis Axes.level_of after_check is_rank level_within
 level_promise = refl
 
-pub ten_level : (l : List (Node (whole ten_tree))) × Lists (λ z. Ancestor z two) l × (Ok 1 ≡ Ok (length l))
+pub ten_level : (l : List (Node (whole ten_tree))) × Lists (λ z. Ancestor z two) l × ◌≡◌ {A = LevelAnswer} (Ok 1) (Ok (length l))
 ten_level = level_is_ancestors ten ten_words ten_yields two (Ok 1) level_promise
 
 place_promise : PlacePromise ten (pre two) (Ok (4, 20))
 unfolding pre run turn_within length_fault in_range step_of close_of nameless second_root accepted cell after_check is_rank place_within
 place_promise = refl
 
-pub ten_block : (first : ℕ) × (count : ℕ) × (Ok (4, 20) ≡ Ok (first, count))
+pub ten_block : (first : ℕ) × (count : ℕ) × ◌≡◌ {A = PlaceAnswer} (Ok (4, 20)) (Ok (first, count))
     × ((z : Node (whole ten_tree)) → EntryIn ten ten_words ten_yields z first count → (two ≡ z) ⊎ Ancestor two z)
     × ((z : Node (whole ten_tree)) → (two ≡ z) ⊎ Ancestor two z → EntryIn ten ten_words ten_yields z first count)
 ten_block = block_is_subtree ten ten_words ten_yields two (Ok (4, 20)) place_promise

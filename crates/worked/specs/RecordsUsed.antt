@@ -25,6 +25,7 @@ use Rattle.trees.specs.Tags.{tags_of, opened, closed, rows_of, one_tree, tree_of
 use Rattle.terms.specs.declared.Kind.{Kind}
 use Rattle.terms.specs.Length.{length_fault}
 use Rattle.terms.specs.Room.{left_by, room_for, front_with}
+use Rattle.terms.specs.Stops.{Written}
 use Rattle.checking.specs.Rule.{step_of, close_of, accepted, nameless, second_root, in_range}
 use Rattle.checking.specs.Turn.{turn_within}
 use Rattle.checked.specs.Yields.{Words}
@@ -34,7 +35,7 @@ use Rattle.bytes_read.specs.Bytes.{marked}
 use Rattle.bytes_read.specs.Scans.{step_by}
 use Rattle.records.specs.Records.{record_fault, records_end, numbers_from, bytes_from, nameless_from, write_fault, ReadPromise, WritePromise}
 use Rattle.tag_scan.specs.TagLists.{tag_bytes, closed_with, nameless_at, misnested, tag_fault, tag_next, tree_end, tags_from}
-use Rattle.tag_lists.specs.Readers.{tags_left, TagsPromise, TreePromise}
+use Rattle.tag_lists.specs.Readers.{tags_left, TagsPromise, TreePromise, TreeRead}
 use Rattle.tag_writing.specs.TagsBack.{row_from, back_left, BackPromise}
 use Rattle.retold.specs.Taken.{Bytes, Taken}
 use Rattle.retold.specs.ShutOut.{one_taken}
@@ -161,7 +162,7 @@ pub tree_fine : FineRead (Ok (4, 7))
 tree_fine = (tree_accepted_exactly Kind.Data framed 1 long (Ok (4, 7)) (single ++ (9 ∷ [])) tree_read framed_bytes).complete framed_tree
 
 -- four numbers are written, those of the entry, and place 7 is told
-pub tree_written : (Ok (4, 7) ≡ Ok (4, (1 + 6 * 1))) × (single ++ (9 ∷ []) ≡ front_with single long)
+pub tree_written : ◌≡◌ {A = TreeRead} (Ok (4, 7)) (Ok (4, (1 + 6 * 1))) × (single ++ (9 ∷ []) ≡ front_with single long)
 unfolding framed_tree
 tree_written = tree_told Kind.Data framed 1 long (Ok (4, 7)) (single ++ (9 ∷ [])) tree_read framed_tree (omega arith)
 
@@ -188,13 +189,13 @@ unfolding run turn_within length_fault in_range step_of close_of nameless second
 back_written = record { told = refl; left = refl }
 
 -- the tag list read as numbers and written back is the tag list
-pub tags_again : (Ok 6 ≡ Ok 6) × (single_tags ++ (9 ∷ []) ≡ front_with single_tags tag_room)
+pub tags_again : ◌≡◌ {A = Written} (Ok 6) (Ok 6) × (single_tags ++ (9 ∷ []) ≡ front_with single_tags tag_room)
 tags_again =
     tags_there_and_back Kind.Data single_tags tags_bytes long (single ++ (9 ∷ [])) 4 tags_read single (9 ∷ []) refl refl
     tag_room (Ok 6) (single_tags ++ (9 ∷ [])) back_written (omega arith)
 
 -- the signature written as a tag list and read back is the signature
-pub single_again : (Ok 4 ≡ Ok 4) × (single ++ (9 ∷ []) ≡ front_with single long)
+pub single_again : ◌≡◌ {A = Written} (Ok 4) (Ok 4) × (single ++ (9 ∷ []) ≡ front_with single long)
 single_again =
     tags_back_and_there Kind.Data single single_words tag_room (single_tags ++ (9 ∷ [])) 6 back_written single_tags (9 ∷ []) refl refl
     long (Ok 4) (single ++ (9 ∷ [])) tags_read (omega arith)
@@ -210,13 +211,13 @@ unfolding length_fault bytes_from nameless_from write_fault left_by room_for
 record_written = record { told = refl; left = refl }
 
 -- the record read as numbers and written back is the record
-pub record_again : (Ok 10 ≡ Ok 10) × (single_record ++ (9 ∷ []) ≡ front_with single_record record_room)
+pub record_again : ◌≡◌ {A = Written} (Ok 10) (Ok 10) × (single_record ++ (9 ∷ []) ≡ front_with single_record record_room)
 record_again =
     records_there_and_back single_record record_bytes long (single ++ (9 ∷ [])) 4 record_read single (9 ∷ []) refl refl
     record_room (Ok 10) (single_record ++ (9 ∷ [])) record_written (omega arith)
 
 -- the signature written as a record and read back is the signature
-pub entry_again : (Ok 4 ≡ Ok 4) × (single ++ (9 ∷ []) ≡ front_with single long)
+pub entry_again : ◌≡◌ {A = Written} (Ok 4) (Ok 4) × (single ++ (9 ∷ []) ≡ front_with single long)
 entry_again =
     records_back_and_there single single_words record_room (single_record ++ (9 ∷ [])) 10 record_written single_record (9 ∷ []) refl refl
     long (Ok 4) (single ++ (9 ∷ [])) record_read (omega arith)

@@ -1,18 +1,11 @@
--- Four stores.
+-- Four numbers are copied to their place.
 use Prim.Native.Nat.{◌*◌}
-use lib.ListN.{length-set}
+use mathlib.Core.List.{[], ◌∷◌}
 use native.Mathlib.Omega.{arith}
-use Rattle.bytes_read.proofs.Rooms.{sets_four}
+use Rattle.bytes_read.proofs.Rooms.{put_sets}
 use Rattle.tag_building.proofs.open_entry.Goals as goal
 
-pub bounds-own-at-2 : goal.bounds-own-at-2
-bounds-own-at-2 c = simp length-set (omega arith)
-
-pub bounds-own-at-3 : goal.bounds-own-at-3
-bounds-own-at-3 c = simp length-set (omega arith)
-
-pub bounds-own-at-4 : goal.bounds-own-at-4
-bounds-own-at-4 c = simp length-set (omega arith)
-
 pub returns : goal.returns
-returns c = let a = c.args in sets_four a.own.now (4 * a.size) a.name 0 0 a.top
+returns c =
+    let a = c.args in
+    put_sets a.own.now (4 * a.size) _ _ (a.name ∷ 0 ∷ 0 ∷ a.top ∷ []) _ (omega arith) c.copy_from_slice.ensures.after (omega arith) (omega arith)

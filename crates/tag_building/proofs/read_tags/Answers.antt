@@ -1,23 +1,25 @@
 -- The pass over the tags says which of the two cases it is: refused, or built, and then given where the room is long enough.
+use mathlib.Core.Path.{ap, sym, ◌∙◌}
 use native.Mathlib.Omega.{arith}
 use Rattle.terms.proofs.Lengths.{most_small}
+use Rattle.tag_scan.specs.declared.limits.Limits.{Limits}
 use Rattle.tag_building.proofs.Filling.{filled_refused, filled_given}
+use Rattle.tag_building.proofs.Passing.{faulty, faultless}
 use Rattle.tag_building.proofs.read_tags.Goals as goal
 
-pub build_tree-judged-requires : goal.build_tree-judged-requires
-build_tree-judged-requires c =
+pub build_tree-built-requires : goal.build_tree-built-requires
+build_tree-built-requires c =
+    let m = ap (λ (x : Limits). x.most) c.from-limits.ensures in
     let s = most_small c.args.kind in
-    (omega (arith, c.most-most.ensures, s), omega (arith, c.most-most.ensures, s))
+    (omega arith, omega arith)
 
-pub returns-then-judged-ne0 : goal.returns-then-judged-ne0
-returns-then-judged-ne0 c =
-    filled_refused _ c.args.kind _ _ _ _ _ c.any_name-any_name.ensures c.most-most.ensures _ _ _ _ _ c.build_tree-judged.ensures (omega arith)
-
-pub give_front-fault-requires : goal.give_front-fault-requires
-give_front-fault-requires c =
-    omega (arith, c.build_tree-judged.ensures.few, c.most-most.ensures, most_small c.args.kind)
+pub returns-then-is_err : goal.returns-then-is_err
+returns-then-is_err c =
+    filled_refused _ c.args.kind _ _ _ _ _ (ap (λ (x : Limits). x.any_name) c.from-limits.ensures) (ap (λ (x : Limits). x.most) c.from-limits.ensures)
+    _ _ _ _ _ c.build_tree-built.ensures (faulty _ (sym c.is_err.ensures.value ∙ c.if-is_err.true))
 
 pub returns : goal.returns
 returns c =
-    let g = c.give_front-fault.ensures in
-    filled_given _ c.args.kind _ _ _ _ _ c.any_name-any_name.ensures c.most-most.ensures _ _ _ _ _ c.build_tree-judged.ensures (omega arith) _ _ g.0 g.1
+    let g = c.give_front-verdict.ensures in
+    filled_given _ c.args.kind _ _ _ _ _ (ap (λ (x : Limits). x.any_name) c.from-limits.ensures) (ap (λ (x : Limits). x.most) c.from-limits.ensures)
+    _ _ _ _ _ c.build_tree-built.ensures (faultless _ (sym c.is_err.ensures.value ∙ c.if-is_err.false)) _ (omega arith) _ _ g.0 g.1

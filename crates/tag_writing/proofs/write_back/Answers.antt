@@ -10,12 +10,7 @@ pub returns-then-room-size : goal.returns-then-room-size
 returns-then-room-size c =
     let a = c.args in
     let t = c.requires in
-    short_with _ _ _ _ 0 refl c.refused.ensures refl (omega (arith, back_length a.sig.now t.0 t.1, signature_long a.sig.now t.0 t.1))
-
-pub overflow_cast-size : goal.overflow_cast-size
-overflow_cast-size c =
-    let t = c.requires in
-    omega (arith, t.2, signature_long c.args.sig.now t.0 t.1)
+    short_with _ _ _ _ c.into.ensures refl (omega (arith, back_length a.sig.now t.0 t.1, signature_long a.sig.now t.0 t.1))
 
 pub write_tags-requires : goal.write_tags-requires
 write_tags-requires c =
@@ -29,4 +24,4 @@ returns c =
     let t = c.requires in
     let n = signature_long a.sig.now t.0 t.1 in
     let k = back_length a.sig.now t.0 t.1 in
-    written_with _ _ _ _ 0 refl _ _ refl refl (omega (arith, n, k)) (omega (arith, n, k)) c.write_tags.ensures
+    written_with _ _ _ _ _ refl (omega (arith, n, k)) (omega (arith, n, k)) c.write_tags.ensures

@@ -6,16 +6,16 @@ use borrow.Author.Rules.{rules}
 use Rattle.checking.proofs.steps.number.Goals as goal
 
 pub overflow_mul-result : goal.overflow_mul-result
-overflow_mul-result c = omega (arith, entry_ends c.args.wide c.args.i c.requires.0)
+overflow_mul-result c = omega (arith, entry_ends 4 c.args.i c.requires.0)
 
 pub overflow_add-result : goal.overflow_add-result
-overflow_add-result c = omega (arith, entry_ends c.args.wide c.args.i c.requires.0)
+overflow_add-result c = omega (arith, entry_ends 4 c.args.i c.requires.0)
 
-pub offset_bounds-sig-wide : goal.offset_bounds-sig-wide
-offset_bounds-sig-wide c = omega (arith, entry_ends c.args.wide c.args.i c.requires.0)
+pub offset_bounds-sig-i : goal.offset_bounds-sig-i
+offset_bounds-sig-i c = omega (arith, entry_ends 4 c.args.i c.requires.0)
 
-pub bounds-sig-wide : goal.bounds-sig-wide
-bounds-sig-wide c = omega (arith, entry_ends c.args.wide c.args.i c.requires.0)
+pub bounds-sig-i : goal.bounds-sig-i
+bounds-sig-i c = omega (arith, entry_ends 4 c.args.i c.requires.0)
 
 pub returns : goal.returns
 unfolding cell

@@ -1,52 +1,46 @@
-use Rattle.turns.specs.Laws.{run_counted}
-use Rattle.trees.specs.Signature.{entries_of, width}
-use Rattle.turns.specs.Turn.{moved}
-use Rattle.checking.specs.Rule.{at, step_of}
+-- A step that was taken counts one; where steps stop, the run says why.
+use Rattle.turns.specs.Laws.{run_counted, run_end, run_budget, run_refused}
+use Rattle.terms.proofs.Handing.{handed_as}
 use Rattle.checking.proofs.Inverse.{step_ranges, step_before}
-use Rattle.checking.proofs.Plain.{moved_at, close_some, step_opens, step_shuts, stuck_entry, stuck_close}
-use Rattle.checking.proofs.Stopping.{reaches_as}
-use native.Mathlib.Nat.{sub-zero}
-use mathlib.Core.Path.{◌≡◌, sym, ◌∙◌}
-use Rattle.checking.proofs.steps.run.Goals.{then-opens, else-opens+then-close_fault-eq0, else-loop-steps-test, then-loop-steps-test+then-entry_fault-ne0, then-loop-steps-test+else-entry_fault-ne0+else-opens+else-close_fault-eq0}
+use Rattle.checking.proofs.Plain.{taken_moved}
+use mathlib.Core.Path.{refl, sym, ◌∙◌}
 use native.Mathlib.Omega.{arith}
 use Rattle.checking.proofs.steps.run.Goals as goal
 
-pub loop-steps-init : goal.loop-steps-init
-loop-steps-init c = (omega arith, c.requires.2, rw sub-zero)
+pub refusal-requires : goal.refusal-requires
+refusal-requires c = (c.requires.0, c.requires.1, c.loop-steps.invariant.within, sym c.step.ensures ∙ c.in_default.is)
 
-pub number-top-requires : goal.number-top-requires
-number-top-requires c = (close_some _ _ _ _ (sym c.close_fault.ensures ∙ c.if-close_fault-eq0.true), omega arith, omega arith)
+pub returns-then-is_accepted : goal.returns-then-is_accepted
+returns-then-is_accepted c =
+    let l = c.loop-steps in
+    handed_as _ _ _ _ refl (l.invariant.same ∙ run_end _ _ _ _ _ _ (sym c.is_accepted.ensures ∙ c.if-is_accepted.true))
+    (record { state = refl; steps = refl; stop = refl })
+
+pub returns-else-is_accepted : goal.returns-else-is_accepted
+returns-else-is_accepted c =
+    let l = c.loop-steps in
+    handed_as _ _ _ _ refl
+    (l.invariant.same ∙ run_refused _ _ _ _ _ (sym c.is_accepted.ensures ∙ c.if-is_accepted.false) _ _ _ (omega arith) c.refusal.ensures)
+    (record { state = refl; steps = refl; stop = refl })
 
 pub loop-steps-preserved : goal.loop-steps-preserved
 loop-steps-preserved c =
     let l = c.loop-steps in
-    let a = c.args in
-    let f = c.entry_fault in
-    let z = c.if-entry_fault-ne0.false in
-    let o = c.opens in
-    let q : step_of a.any_name a.n (entries_of width a.sig.now) (at l.i l.top l.closed) ≡ moved (at c.if-opens.i c.if-opens.top c.if-opens.closed) =
-    elim c.if-opens.branch [
-      | then-opens w ↦ step_opens _ _ _ _ _ _ _ f.ensures z _ o.ensures w.if-opens.true ∙ moved_at w.i-is w.top-is w.closed-is
-      | else-opens+then-close_fault-eq0 w ↦ step_shuts _ _ _ _ _ _ _ f.ensures z _ o.ensures w.if-opens.false _ w.close_fault.ensures w.if-close_fault-eq0.true
-          ∙ moved_at w.i-is (w.top-is ∙ w.number-top.ensures) w.closed-is
-    ] in
-    (omega arith, step_ranges _ _ _ _ _ l.invariant.1 q, l.invariant.2 ∙ run_counted _ _ _ _ _ (step_before _ _ _ _ _ q) _ _ (omega arith) q)
+    let e = taken_moved _ _ (sym c.step.ensures ∙ c.in-Some.is) in
+    record {
+      within = step_ranges _ _ _ _ _ l.invariant.within e;
+      same = l.invariant.same ∙ run_counted _ _ _ _ _ (step_before _ _ _ _ _ e) _ _ (omega arith) e;
+    }
 
-pub stopped-requires : goal.stopped-requires
-stopped-requires c =
+pub returns-then-is_accepted-2 : goal.returns-then-is_accepted-2
+returns-then-is_accepted-2 c =
     let l = c.loop-steps in
-    let a = c in (
-      a.requires.0,
-      a.requires.1,
-      l.invariant.1,
-      l.invariant.0,
-      λ b. elim c.loop-steps-test.branch [
-        | else-loop-steps-test w ↦ absurd (omega arith)
-        | then-loop-steps-test+then-entry_fault-ne0 w ↦ stuck_entry _ _ _ _ _ _ _ w.entry_fault.ensures w.if-entry_fault-ne0.true
-        | then-loop-steps-test+else-entry_fault-ne0+else-opens+else-close_fault-eq0 w ↦
-            stuck_close _ _ _ _ _ _ _ w.entry_fault.ensures w.if-entry_fault-ne0.false _ w.opens.ensures w.if-opens.false _ w.close_fault.ensures w.if-close_fault-eq0.false
-      ],
-    )
+    handed_as _ _ _ _ refl (l.invariant.same ∙ run_end _ _ _ _ _ _ (sym c.is_accepted-2.ensures ∙ c.if-is_accepted-2.true))
+    (record { state = refl; steps = omega arith; stop = refl })
 
-pub returns : goal.returns
-returns c = reaches_as _ _ _ c.loop-steps.invariant.2 c.stopped.ensures
+pub returns-else-is_accepted-2 : goal.returns-else-is_accepted-2
+returns-else-is_accepted-2 c =
+    let l = c.loop-steps in
+    handed_as _ _ _ _ refl
+    (l.invariant.same ∙ run_budget _ _ _ _ _ (sym c.is_accepted-2.ensures ∙ c.if-is_accepted-2.false) _ (omega arith))
+    (record { state = refl; steps = omega arith; stop = refl })

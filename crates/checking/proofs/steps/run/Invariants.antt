@@ -1,15 +1,13 @@
--- The invariant: what was asked at the start is what is still asked now, with the steps taken and the state reached. What is left of the budget falls.
+-- The invariant: the state is within its ranges, and what was asked at the start is what is still asked now, with the steps taken and the state reached.
 use Rattle.trees.specs.Signature.{entries_of, width}
-use Rattle.checking.specs.Rule.{Ranges, at}
+use Rattle.checking.specs.Rule.{Ranges}
 use Rattle.checking.specs.Plain.{rest_of}
 use mathlib.Core.Path.{◌≡◌}
-use Prim.Native.Nat.{◌≤◌, ◌-◌}
+use Prim.Native.Nat.{◌-◌}
 use Rattle.checking.proofs.steps.run.Given as goal
 
 abbrev pub invariant-loop-steps : goal.invariant-loop-steps
-invariant-loop-steps l =
-    (l.steps ≤ l.budget) × Ranges l.n (at l.i l.top l.closed)
-    × (rest_of l.any_name l.n (entries_of width l.sig) l.budget l.initial.steps (at l.initial.i l.initial.top l.initial.closed) ≡ rest_of l.any_name l.n (entries_of width l.sig) (l.budget - l.steps) l.steps (at l.i l.top l.closed))
-
-abbrev pub decreases-loop-steps : goal.decreases-loop-steps
-decreases-loop-steps l = l.budget - l.steps
+invariant-loop-steps l = record {
+  within : Ranges l.n l.state;
+  same : rest_of l.any_name l.n (entries_of width l.sig) l.budget 0 l.fn.start ≡ rest_of l.any_name l.n (entries_of width l.sig) (l.budget - l.steps) l.steps l.state;
+}

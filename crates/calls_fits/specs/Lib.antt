@@ -1,2 +1,0 @@
--- A saved ordered question as bare numbers.
-pub mod Fits

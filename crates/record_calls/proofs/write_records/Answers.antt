@@ -1,9 +1,0 @@
--- The writer's answer, told.
-use mathlib.Core.Path.{refl}
-use Rattle.record_calls.proofs.Laws.{room_left}
-use Rattle.record_calls.proofs.write_records.Goals as goal
-
-pub returns : goal.returns
-returns c =
-    let got = c.write_records-answer in
-    room_left _ _ got.result _ _ _ refl got.ensures c.tell_written.ensures

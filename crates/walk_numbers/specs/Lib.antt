@@ -1,2 +1,0 @@
--- A saved walk as bare numbers.
-pub mod Walk
