@@ -10,10 +10,9 @@ ghost use Rattle.blocks.specs.Checked.{is_rank};
 ghost use Rattle.blocks.specs.Level.{level_told, level_within, LevelPromise};
 ghost use Rattle.blocks.specs.Block.{place_told, place_within, PlacePromise, BlockPromise};
 
+pub use accepted::Accepted;
 use entries::{first_past, parent};
 use terms::{Fault, PreRank, Refusal};
-
-pub use accepted::Accepted;
 
 // Whether i is a rank of n entries.
 fn is_rank(n: u16, i: u16) -> bool

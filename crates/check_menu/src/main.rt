@@ -22,7 +22,10 @@ fn check(rt: &impl Print, sig: &[u16]) -> io::Result<()> {
             Stop::End => return println!(rt; "accepted: a tree yields this signature"),
             Stop::Budget => println!(rt; "given back, to go on later")?,
             Stop::Refused(refusal) => {
-                return println!(rt; "refused with number {} at entry {}", refusal.number, refusal.entry.0);
+                return println!(rt;
+                    "refused with number {} at entry {}",
+                    refusal.number, refusal.entry.0
+                );
             }
         }
         state = turn.state;

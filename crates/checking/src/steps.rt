@@ -69,7 +69,11 @@ fn test_close(sig: &[u16], i: u16, top: u16, closed: u16) -> Result<(), Fault>
         return Err(Fault::WrongFf);
     }
     let up = number(sig, top, 3);
-    if up < top { Ok(()) } else { Err(Fault::NotOpen) }
+    if up < top {
+        Ok(())
+    } else {
+        Err(Fault::NotOpen)
+    }
 }
 
 // The entry that a refused close names: the next one where nothing is open, none by the 9, else the one that would be closed.

@@ -42,6 +42,7 @@ impl Printer<'_> {
     }
 
     // Puts the decimal digits of a number: those of its tenth part, and then the last one.
+    // They are made here and not by `Display`, since the edits `digit_lost` and `digit_one_too_high` plant their faults here.
     fn put_decimal(&mut self, number: u64)
         ensures { Printed (decimal number) self.old self.new }
     {

@@ -10,6 +10,9 @@ ghost use Rattle.lines.specs.Listing.{most_bytes, text_room};
 use std::io;
 use std::io::{Read, Write};
 
+// The rooms are arrays, since a `Vec` would add the heap's C functions to those whose contracts the program assumes (docs/PROMISES.md).
+// They are two functions, since the clause of each says that its size is the one that specs/ names, which a const parameter can't say.
+
 // One byte more than the longest input. The `ensures` gives only the length, which lending the array needs.
 fn input_room() -> [u8; 24673]
     ensures { most_bytes + 1 ≡ length result }
@@ -25,6 +28,7 @@ fn text_room() -> [u8; 819200]
 }
 
 // Reads until the room is full or the input ends, and answers how many bytes were read: they stand at the front of the room, in their order.
+// The loop is a `while`, since a read takes as many bytes as come; std's own loop, `read_to_end`, wants a `Vec`.
 fn read_full<R: Read>(input: &mut R, room: &mut [u8]) -> io::Result<usize>
     ensures within { IfOk result (λ count. count ≤ length room.new) }
     ensures bytes { IfOk result (λ count. Consumes (R.remaining input.old) (R.remaining input.new) (take count room.new)) }

@@ -28,7 +28,8 @@ use Rattle.terms.specs.declared.Fault.{Fault}
 use Rattle.terms.specs.Faults.{number_of, refusal_at}
 use Rattle.checking.specs.Whole.{WholePromise}
 use Rattle.blocks.proofs.Calls.{after_accepted}
-use Rattle.marks.specs.Axis.{axis_number, arguments_fine, axis_within, axis_answer, answer_in, Judged, Refuses}
+use Rattle.marks.specs.Axis.{axis_number, arguments_fine, axis_within, axis_answer, answer_in}
+use Rattle.marks.specs.Requests.{Judged, Refuses}
 
 -- ---- arguments
 
@@ -127,8 +128,8 @@ pub judged_leaves : {s contexts : List ℕ} {axis name : ℕ} {s' contexts' : Li
 judged_leaves j counted p room r after =
     leaves_as _ _ r after
     (
-      j.left p room
-      ∙ sym (λ i. room_for room (answer_of (j.numbered i) ((counted ∙ ap entries j.signature) i) (entries_of width (j.signature i)).fa (entries_of width (j.signature i)).name (j.named i) p (j.ranks i)))
+    j.left p room
+    ∙ sym (λ i. room_for room (answer_of (j.numbered i) ((counted ∙ ap entries j.signature) i) (entries_of width (j.signature i)).fa (entries_of width (j.signature i)).name (j.named i) p (j.ranks i)))
     )
 
 -- ---- the ranks of a list written

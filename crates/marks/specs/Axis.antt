@@ -6,7 +6,6 @@
 --   axis_within, axis_answer        what is left, refusals in their order
 --   AxisPromise                   the call answers and leaves just that
 --   JudgedFine number n cs r       r is the axis with this number, where no argument is refused, or a bad argument
---   Judged, Refuses                what a request that is judged, and one that is refused, say of the whole call
 use Rattle.std.specs.Prelude.{ℕ, ◌≡◌, ◌<◌, List, Bool, true, false, ◌&&◌, leb, Result, MatchResult}
 use Rattle.turns.specs.Pick.{pick}
 use Rattle.trees.specs.Signature.{entries_of, width, entries}
@@ -63,15 +62,3 @@ abbrev pub JudgedFine : ℕ → ℕ → List ℕ → Result Axis Fault → Type 
 JudgedFine number n contexts r =
     MatchResult r (λ axis. (axis_number axis ≡ number) × (arguments_fine number n contexts ≡ true))
     (λ fault. (fault ≡ Fault.BadArgument) × (arguments_fine number n contexts ≡ false))
-
--- the signature and the arguments that were judged are those that were lent, so that what is left is the answer or the room's refusal
-pub record Judged (s contexts : List ℕ) (axis name : ℕ) (s' contexts' : List ℕ) (axis' name' : ℕ) : Type 0 where
-  pub signature : s' ≡ s
-  pub ranks : contexts' ≡ contexts
-  pub numbered : axis' ≡ axis
-  pub named : name' ≡ name
-  pub left : (p : ℕ) (room : List ℕ) → axis_answer s contexts axis name p room ≡ room_for room (answer_in s contexts axis name p)
-
--- the call is refused so, whatever the position and the room
-pub record Refuses (s contexts : List ℕ) (axis name number entry : ℕ) : Type 0 where
-  pub left : (p : ℕ) (room : List ℕ) → axis_answer s contexts axis name p room ≡ refused_left room number entry

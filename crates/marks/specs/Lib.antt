@@ -1,3 +1,4 @@
--- Marks: what an axis call promises, and the marks that its code goes by.
+-- Marks: what an axis call promises, its request, and the marks that its code goes by.
 pub mod Axis
+pub mod Requests
 pub mod Marks

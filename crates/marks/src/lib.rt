@@ -13,11 +13,10 @@ ghost use Rattle.terms.specs.Room.{room_for, Leaves};
 ghost use Rattle.marks.specs.Axis.{JudgedFine};
 ghost use Rattle.marks.specs.Marks.{marked, lesser};
 
-use entries::name;
-use terms::{Fault, PreRank, Refusal};
-
 pub use axis_numbers::Axis;
+use entries::name;
 pub use request::Request;
+use terms::{Fault, PreRank, Refusal};
 
 // Whether the contexts are ranks of n entries, strictly ascending.
 fn is_ascending(n: u16, contexts: &[u16]) -> bool

@@ -1,5 +1,5 @@
 // An axis call whose signature was accepted and whose arguments were judged.
-ghost use Rattle.std.specs.Prelude.{◌≡◌, true, MatchResult};
+ghost use Rattle.std.specs.Prelude.{◌≡◌, true};
 ghost use Rattle.xpath.specs.Select.{within};
 
 use crate::{Axis, fine_axis};
@@ -17,11 +17,16 @@ pub struct Request<'a> {
 }
 
 impl<'a> Request<'a> {
-    ghost use Rattle.marks.specs.Axis.{axis_number, Judged, Refuses};
+    ghost use Rattle.marks.specs.Requests.{JudgePromise};
 
     // The request, where neither the whole check nor an argument refuses the call.
-    pub fn judge(sig: &'a [u16], contexts: &'a [u16], axis: u16, name: u16) -> Result<Request<'a>, Refusal>
-        ensures { MatchResult result (λ request. Judged sig.now contexts.now axis name request.tree.sig.now request.contexts.now (axis_number request.axis) request.name) (λ refused. Refuses sig.now contexts.now axis name refused.number refused.entry.0) }
+    pub fn judge(
+        sig: &'a [u16],
+        contexts: &'a [u16],
+        axis: u16,
+        name: u16,
+    ) -> Result<Request<'a>, Refusal>
+        ensures { JudgePromise sig.now contexts.now axis name result }
     {
         let tree = Accepted::check(sig)?;
         let axis = fine_axis(tree.n, contexts, axis)?;

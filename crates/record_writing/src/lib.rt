@@ -1,9 +1,8 @@
 // Layer 3, record_writing: signature records, written from signatures of data trees.
 #![tactic(auto)]
 
-ghost use Rattle.std.specs.Prelude.{◌≡◌, ◌==◌, [], ◌+◌, ◌*◌, ◌≤◌, length, slice_index};
+ghost use Rattle.std.specs.Prelude.{◌≡◌, ◌==◌, [], ◌*◌, ◌≤◌, length, slice_index};
 ghost use Rattle.std.specs.List.{list_any, range_with_len};
-ghost use Rattle.std.proofs.lemmas.List.Edits.{sets};
 ghost use Rattle.trees.specs.Signature.{width};
 ghost use Rattle.terms.specs.Faults.{tested};
 ghost use Rattle.terms.specs.Room.{front_with};
@@ -11,16 +10,16 @@ ghost use Rattle.records.specs.Records.{entry_bytes, bytes_from, write_fault, Wr
 
 use terms::{Fault, Kind, Refusal};
 
-// Writes one signature record at a place of the room.
-fn put_record(room: &mut [u8], at: usize, name: u16, post: u16, ff: u16, fa: u16)
-    requires { at + 10 ≤ length room.old }
-    ensures { room.new ≡ sets room.old at (entry_bytes name post ff fa []) }
+// Writes one signature record.
+fn put_record(record: &mut [u8], name: u16, post: u16, ff: u16, fa: u16)
+    requires { length record.old ≡ 10 }
+    ensures { record.new ≡ entry_bytes name post ff fa [] }
 {
-    room[at..at + 2].copy_from_slice(b"SE");
-    room[at + 2..at + 4].copy_from_slice(&name.to_le_bytes());
-    room[at + 4..at + 6].copy_from_slice(&post.to_le_bytes());
-    room[at + 6..at + 8].copy_from_slice(&ff.to_le_bytes());
-    room[at + 8..at + 10].copy_from_slice(&fa.to_le_bytes());
+    record[..2].copy_from_slice(b"SE");
+    record[2..4].copy_from_slice(&name.to_le_bytes());
+    record[4..6].copy_from_slice(&post.to_le_bytes());
+    record[6..8].copy_from_slice(&ff.to_le_bytes());
+    record[8..10].copy_from_slice(&fa.to_le_bytes());
 }
 
 // Whether one of the first size entries has name 0.
@@ -38,7 +37,8 @@ fn fill_records(sig: &[u16], size: usize, room: &mut [u8])
 {
     for i in 0..size {
         let k = 4 * i;
-        put_record(room, 10 * i, sig[k], sig[k + 1], sig[k + 2], sig[k + 3]);
+        let record = &mut room[10 * i..10 * i + 10];
+        put_record(record, sig[k], sig[k + 1], sig[k + 2], sig[k + 3]);
     }
 }
 

@@ -106,6 +106,7 @@ pub fn read_tags(kind: Kind, bytes: &[u8], whole: bool, from: usize, room: &mut 
     ensures { FilledPromise «whole» kind bytes.now from room.old (tested result.verdict) result.at (4 * result.count) room.new }
 {
     let limits = Limits::from(kind);
+    // The project has no heap: here stand the numbers of the largest tree, four to an element.
     let mut own = [0u16; 16384];
     let built = build_tree(limits, bytes, whole, from, &mut own);
     if built.verdict.is_err() {

@@ -1,8 +1,7 @@
 // Layer 3, tag_writing: signatures written back as tag lists, for data trees and twigs.
 #![tactic(auto)]
 
-ghost use Rattle.std.specs.Prelude.{◌≡◌, [], ◌∷◌, ◌+◌, ◌*◌, ◌≤◌, length};
-ghost use Rattle.std.proofs.lemmas.List.Edits.{sets};
+ghost use Rattle.std.specs.Prelude.{◌≡◌, [], ◌∷◌, ◌*◌, ◌≤◌, length};
 ghost use Rattle.trees.specs.Tree.{Tree, size, whole};
 ghost use Rattle.trees.specs.Signature.{signature};
 ghost use Rattle.bytes_read.specs.Bytes.{low, high};
@@ -11,21 +10,13 @@ ghost use Rattle.tag_writing.specs.TagsBack.{back_bytes, ends_at, BackPromise};
 
 use terms::{Fault, Kind, Refusal};
 
-// Writes an `OP` and a name at a place of the room.
-fn put_open(room: &mut [u8], at: usize, name: u16)
-    requires { at + 4 ≤ length room.old }
-    ensures { room.new ≡ sets room.old at (79 ∷ 80 ∷ low name ∷ high name ∷ []) }
+// Writes an `OP` and a name.
+fn put_open(tag: &mut [u8], name: u16)
+    requires { length tag.old ≡ 4 }
+    ensures { tag.new ≡ 79 ∷ 80 ∷ low name ∷ high name ∷ [] }
 {
-    room[at..at + 2].copy_from_slice(b"OP");
-    room[at + 2..at + 4].copy_from_slice(&name.to_le_bytes());
-}
-
-// Writes a `CL` at a place of the room.
-fn put_close(room: &mut [u8], at: usize)
-    requires { at + 2 ≤ length room.old }
-    ensures { room.new ≡ sets room.old at (67 ∷ 76 ∷ []) }
-{
-    room[at..at + 2].copy_from_slice(b"CL");
+    tag[..2].copy_from_slice(b"OP");
+    tag[2..4].copy_from_slice(&name.to_le_bytes());
 }
 
 // Whether the innermost open element ends before the next entry.
@@ -37,7 +28,7 @@ fn is_ending(sig: &[u16], next: u16, top: u16) -> bool
 }
 
 // Writes the tag list of a tree's signature to the front of the room: an element that ends before the next entry closes, else the next entry opens.
-fn write_tags(sig: &[u16], count: u16, room: &mut [u8])
+fn write_tags(sig: &[u16], count: usize, room: &mut [u8])
     requires { (count ≤ 4096) × (6 * count ≤ length room.old) × ((t : Tree) × (sig.now ≡ signature t) × (size (whole t) ≡ count)) }
     ensures { room.new ≡ front_with (back_bytes sig.now) room.old }
 {
@@ -47,11 +38,11 @@ fn write_tags(sig: &[u16], count: u16, room: &mut [u8])
     for _ in 0..2 * count {
         let next = opened + 1;
         if is_ending(sig, next, top) {
-            put_close(room, at);
+            room[at..at + 2].copy_from_slice(b"CL");
             top = entries::parent(sig, top);
             at += 2;
         } else {
-            put_open(room, at, entries::name(sig, next));
+            put_open(&mut room[at..at + 4], entries::name(sig, next));
             opened = next;
             top = next;
             at += 4;
@@ -68,7 +59,7 @@ fn write_back(sig: &[u16], room: &mut [u8]) -> Result<usize, Refusal>
     if room.len() / 6 < size {
         return Err(Fault::NoRoom.into());
     }
-    write_tags(sig, size as u16, room);
+    write_tags(sig, size, room);
     Ok(6 * size)
 }
 

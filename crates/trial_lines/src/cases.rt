@@ -19,7 +19,10 @@ pub fn read_cases<R: Input + Alloc>(rt: &R) -> io::Result<Vec<u8, R::A>> {
 }
 
 // Hands each line of the standard input to what tries it, with the place to print to. A read or a write that fails ends the program with its error.
-pub fn try_cases<F: FnMut(&mut Out, Case) -> io::Result<()>>(rt: &HostRuntime, mut tries: F) -> io::Result<()>
+pub fn try_cases<F: FnMut(&mut Out, Case) -> io::Result<()>>(
+    rt: &HostRuntime,
+    mut tries: F,
+) -> io::Result<()>
     requires { F.IsAlwaysCallable tries }
 {
     let lines = read_cases(rt)?;

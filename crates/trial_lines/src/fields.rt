@@ -1,4 +1,6 @@
 // A case's line: its fields and the numbers in them.
+ghost use Rattle.std.specs.Prelude.{◌≡◌, ◌≤◌, length, take};
+
 use terms::Kind;
 
 // A case: a line that strokes cut into fields.
@@ -7,15 +9,16 @@ pub struct Case<'a>(pub &'a [u8]);
 
 impl<'a> Case<'a> {
     // Field k, counted from 0; a field that is not there is empty.
-    pub fn field(self, k: usize) -> &'a [u8] {
-        self.0
-            .split(|byte| *byte == b'|')
-            .nth(k)
-            .unwrap_or(&[])
+    pub fn field(self, k: usize) -> &'a [u8]
+        ensures { length result.now ≤ length self.entry.0.now }
+    {
+        self.0.split(|byte| *byte == b'|').nth(k).unwrap_or(&[])
     }
 
     // The first field, which names the case and need not be text.
-    pub fn label(self) -> &'a [u8] {
+    pub fn label(self) -> &'a [u8]
+        ensures { length result.now ≤ length self.entry.0.now }
+    {
         self.field(0)
     }
 
@@ -52,7 +55,9 @@ pub fn numbers_into(list: &[u8], room: &mut [u16]) -> usize {
 }
 
 // The first n of a list, or all of them.
-pub fn front<T>(list: &[T], n: usize) -> &[T] {
+pub fn front<T>(list: &[T], n: usize) -> &[T]
+    ensures { result.now ≡ take n list.now }
+{
     &list[..n.min(list.len())]
 }
 

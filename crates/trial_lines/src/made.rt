@@ -1,5 +1,5 @@
 // The trees that lines name by a letter and the number of their elements.
-ghost use Rattle.std.specs.Prelude.{◌≤◌, ℕ};
+ghost use Rattle.std.specs.Prelude.{◌≤◌, ℕ, length};
 
 use crate::fields::{front, numbers_into};
 
@@ -127,7 +127,9 @@ fn named_into(room: &mut [u16], letter: u8, list: &[u8]) -> usize {
 }
 
 // Writes what a field lists, as far as it fits, and hands back what is written: the numbers themselves, or the tree or list that a letter names.
-pub fn tree_into<'a>(list: &[u8], room: &'a mut [u16]) -> &'a [u16] {
+pub fn tree_into<'a>(list: &[u8], room: &'a mut [u16]) -> &'a [u16]
+    ensures { length result.now ≤ length room.entry.now }
+{
     let len = match list.first() {
         Some(letter) if b'A' <= *letter => named_into(room, *letter, list),
         _ => numbers_into(list, room),

@@ -1,7 +1,6 @@
 // Printing: what calls and turns answer, in words and numbers.
-use std::fmt;
-use std::io;
 use std::io::Write;
+use std::{fmt, io};
 use terms::{Refusal, Stop};
 
 // Numbers of one type, each after a blank.
@@ -18,7 +17,11 @@ impl<T: fmt::Display> fmt::Display for Row<'_, T> {
 }
 
 // What a call answers: what `shows` prints of it, or the refusal's number and entry.
-pub fn told<W: Write, T, F: FnOnce(&mut W, T) -> io::Result<()>>(out: &mut W, answer: Result<T, Refusal>, shows: F) -> io::Result<()>
+pub fn told<W: Write, T, F: FnOnce(&mut W, T) -> io::Result<()>>(
+    out: &mut W,
+    answer: Result<T, Refusal>,
+    shows: F,
+) -> io::Result<()>
     requires { F.IsAlwaysCallable shows }
 {
     match answer {

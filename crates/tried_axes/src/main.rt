@@ -12,7 +12,9 @@ use axes::axis;
 use std::io;
 use std::io::Write;
 use told_entries::entries_told;
-use trial_lines::{Case, Row, UnknownWord, front, length_told, numbers_into, room_left, told, tree_into, try_cases};
+use trial_lines::{
+    Case, Row, UnknownWord, front, length_told, numbers_into, room_left, told, tree_into, try_cases,
+};
 
 // What a line's first word has tried.
 #[derive(Clone, Copy)]
@@ -52,7 +54,14 @@ impl Step {
     // What one entry answers.
     fn from_one<W: Write>(self, out: &mut W, sig: &[u16], context: u16) -> io::Result<()> {
         let mut room = [0; 10];
-        let answer = axis(sig, &[context], self.axis, self.name, self.position, &mut room);
+        let answer = axis(
+            sig,
+            &[context],
+            self.axis,
+            self.name,
+            self.position,
+            &mut room,
+        );
         told(out, answer, |out, len| {
             write!(out, "{}", Row(front(&room, len)))
         })?;

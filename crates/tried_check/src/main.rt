@@ -46,13 +46,7 @@ fn judged(out: &mut impl Write, label: &[u8], verdict: Result<(), Refusal>) -> i
 }
 
 // A turn of so many steps and then the rest: the states and sums are those of one turn.
-fn cut(
-    out: &mut impl Write,
-    label: &[u8],
-    kind: Kind,
-    sig: &[u16],
-    budget: u64,
-) -> io::Result<()> {
+fn cut(out: &mut impl Write, label: &[u8], kind: Kind, sig: &[u16], budget: u64) -> io::Result<()> {
     let first = CheckState::fresh().turn(kind, sig, budget);
     shown(out, label, first)?;
     shown(out, b"then", first.state.turn(kind, sig, 1000))

@@ -58,7 +58,15 @@ fn one_turn(out: &mut impl Write, question: Question, numbers: [u16; 6]) -> io::
     room.truncate(usize::from(length));
     out.write_all(question.case.label())?;
     out.write_all(b":")?;
-    shown(out, state.turn(question.sig, question.twig, room.as_mut_slice(), great(budget)))?;
+    shown(
+        out,
+        state.turn(
+            question.sig,
+            question.twig,
+            room.as_mut_slice(),
+            great(budget),
+        ),
+    )?;
     Ok(room)
 }
 

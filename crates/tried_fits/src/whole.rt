@@ -73,7 +73,9 @@ impl Question<'_> {
     // How many steps a whole question takes.
     fn steps(self) -> io::Result<u64> {
         let mut room = self.room()?;
-        let turn = self.begun().turn(self.sig, self.twig, room.as_mut_slice(), u64::MAX);
+        let turn = self
+            .begun()
+            .turn(self.sig, self.twig, room.as_mut_slice(), u64::MAX);
         Ok(turn.steps)
     }
 
@@ -82,10 +84,16 @@ impl Question<'_> {
         out.write_all(self.case.label())?;
         write!(out, " cut at {steps}:")?;
         let mut room = self.room()?;
-        let turn = self.begun().turn(self.sig, self.twig, room.as_mut_slice(), steps);
+        let turn = self
+            .begun()
+            .turn(self.sig, self.twig, room.as_mut_slice(), steps);
         shown(out, turn)?;
         out.write_all(b" then")?;
-        shown(out, turn.state.turn(self.sig, self.twig, room.as_mut_slice(), rest))?;
+        shown(
+            out,
+            turn.state
+                .turn(self.sig, self.twig, room.as_mut_slice(), rest),
+        )?;
         out.write_all(b"\n")
     }
 

@@ -51,15 +51,29 @@ impl TryFrom<u16> for Tried {
 }
 
 // A turn of preparing from an entry on.
-fn prepare_turn(out: &mut impl Write, trees: Trees, table: &mut [u16], next: u16, budget: u16) -> io::Result<()> {
+fn prepare_turn(
+    out: &mut impl Write,
+    trees: Trees,
+    table: &mut [u16],
+    next: u16,
+    budget: u16,
+) -> io::Result<()> {
     let state = Prep {
         next: PreRank(next),
     };
-    shown_prep(out, state.turn(trees.sig, trees.twig, table, u64::from(budget)))
+    shown_prep(
+        out,
+        state.turn(trees.sig, trees.twig, table, u64::from(budget)),
+    )
 }
 
 // A turn of walking from the walk of a case: three images, node, candidate and phase, which is ended at a number over 2; and the budget.
-fn walk_turn(out: &mut impl Write, trees: Trees, table: &[u16], numbers: [u16; 7]) -> io::Result<()> {
+fn walk_turn(
+    out: &mut impl Write,
+    trees: Trees,
+    table: &[u16],
+    numbers: [u16; 7],
+) -> io::Result<()> {
     let [first, second, third, node, candidate, phase, budget] = numbers;
     let mut images = [0; 16];
     images[..3].copy_from_slice(&[first, second, third]);
@@ -69,7 +83,10 @@ fn walk_turn(out: &mut impl Write, trees: Trees, table: &[u16], numbers: [u16; 7
         candidate: PreRank(candidate),
         phase: Phase::try_from(phase).unwrap_or(Phase::Ended),
     };
-    shown_walk(out, state.turn(trees.sig, trees.twig, table, u64::from(budget)))
+    shown_walk(
+        out,
+        state.turn(trees.sig, trees.twig, table, u64::from(budget)),
+    )
 }
 
 // Prints every number of the table.
@@ -86,7 +103,13 @@ fn start<W: Write>(out: &mut W, table: &mut [u16], n: u64) -> io::Result<()> {
 }
 
 // What a word has tried with the numbers behind the table's length.
-fn try_word(out: &mut impl Write, tried: Tried, trees: Trees, table: &mut [u16], numbers: [u16; 7]) -> io::Result<()> {
+fn try_word(
+    out: &mut impl Write,
+    tried: Tried,
+    trees: Trees,
+    table: &mut [u16],
+    numbers: [u16; 7],
+) -> io::Result<()> {
     let [a, b, c, ..] = numbers;
     match tried {
         Tried::Start => start(out, table, u64::from(a)),

@@ -14,7 +14,17 @@ pub fn shown_prep(out: &mut impl Write, turn: Turn<Prep>) -> io::Result<()> {
 
 // What stopped a turn of walking, its steps, and node, candidate, phase and images of its state.
 pub fn shown_walk(out: &mut impl Write, turn: Turn<Walk>) -> io::Result<()> {
-    let Walk { images, node, candidate, phase } = turn.state;
-    came_to(out, turn.stop, turn.steps, &[node, candidate.0, u16::from(phase)])?;
+    let Walk {
+        images,
+        node,
+        candidate,
+        phase,
+    } = turn.state;
+    came_to(
+        out,
+        turn.stop,
+        turn.steps,
+        &[node, candidate.0, u16::from(phase)],
+    )?;
     writeln!(out, "{}", Row(&images))
 }

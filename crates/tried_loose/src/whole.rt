@@ -67,7 +67,9 @@ impl Tally {
             return Tally { sum, gap, ..self };
         }
         Tally {
-            answers: self.answers.wrapping_add(u64::from(matches!(turn.stop, Stop::Answer))),
+            answers: self
+                .answers
+                .wrapping_add(u64::from(matches!(turn.stop, Stop::Answer))),
             sum,
             gap: 0,
             most: gap.max(self.most),
@@ -105,7 +107,13 @@ impl WholeWalk {
 
 impl Trees<'_> {
     // Prepares the whole table in turns of budget steps.
-    pub fn prepare(self, out: &mut impl Write, table: &mut [u16], n: u64, budget: u64) -> io::Result<()> {
+    pub fn prepare(
+        self,
+        out: &mut impl Write,
+        table: &mut [u16],
+        n: u64,
+        budget: u64,
+    ) -> io::Result<()> {
         match prepare_start(n, table) {
             Ok(fresh) => self.prepare_from(out, table, fresh, budget),
             Err(_) => out.write_all(b"not started\n"),
@@ -113,7 +121,13 @@ impl Trees<'_> {
     }
 
     // The turns from a state on; says the last turn's stop, the sum of the steps and the state.
-    fn prepare_from(self, out: &mut impl Write, table: &mut [u16], fresh: Prep, budget: u64) -> io::Result<()> {
+    fn prepare_from(
+        self,
+        out: &mut impl Write,
+        table: &mut [u16],
+        fresh: Prep,
+        budget: u64,
+    ) -> io::Result<()> {
         let mut state = fresh;
         let mut sum: u64 = 0;
         for _ in 0..5000u16 {
@@ -156,7 +170,12 @@ impl Trees<'_> {
     fn walked(self, out: &mut impl Write, stop: Stop, tally: Tally) -> io::Result<()> {
         out.write_all(b"walked")?;
         stopped(out, stop)?;
-        let Tally { answers, sum, most, .. } = tally;
+        let Tally {
+            answers,
+            sum,
+            most,
+            ..
+        } = tally;
         writeln!(out, " {answers} {sum} {most} {}", self.limit())
     }
 
@@ -164,6 +183,10 @@ impl Trees<'_> {
     fn limit(self) -> usize {
         let n = self.sig.len() / 4;
         let m = self.twig.len() / 4;
-        if n <= 4096 && m <= 16 { 2 * m * n + 1 } else { 0 }
+        if n <= 4096 && m <= 16 {
+            2 * m * n + 1
+        } else {
+            0
+        }
     }
 }

@@ -7,7 +7,9 @@
 use ordered::ordered_next;
 use std::io;
 use std::io::Write;
-use trial_lines::{Case, Row, UnknownWord, front, length_told, numbers_into, room_left, tree_into, try_cases};
+use trial_lines::{
+    Case, Row, UnknownWord, front, length_told, numbers_into, room_left, tree_into, try_cases,
+};
 
 // What a line's first word has tried.
 #[derive(Clone, Copy)]
@@ -82,7 +84,10 @@ impl Trees<'_> {
         let Some(lent) = room.get_mut(..width) else {
             return Ok(());
         };
-        length_told(out, ordered_next(self.sig, self.twig, front(&tuple, len), lent))?;
+        length_told(
+            out,
+            ordered_next(self.sig, self.twig, front(&tuple, len), lent),
+        )?;
         room_left(out, lent)
     }
 }

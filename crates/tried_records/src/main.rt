@@ -17,7 +17,9 @@ use std::io::Write;
 use tag_lists::{read_tree, tags_to_signature};
 use tag_writing::signature_to_tags;
 use terms::Kind;
-use trial_lines::{Case, Row, UnknownWord, kind_of, length_told, room_left, told, tree_into, try_cases};
+use trial_lines::{
+    Case, Row, UnknownWord, kind_of, length_told, room_left, told, tree_into, try_cases,
+};
 
 // What a line's first word has tried.
 #[derive(Clone, Copy)]
@@ -93,7 +95,11 @@ impl Way {
             Form::Tags(kind) => length_told(out, tags_to_signature(kind, bytes, room))?,
             Form::One => {
                 let answer = read_tree(Kind::Data, bytes, self.place(), room);
-                told(out, answer, |out, (len, end)| write!(out, " length {len} end {end}"))?;
+                told(
+                    out,
+                    answer,
+                    |out, (len, end)| write!(out, " length {len} end {end}"),
+                )?;
             }
         }
         self.left(out, room)

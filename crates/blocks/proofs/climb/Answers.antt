@@ -26,18 +26,17 @@ loop-up-smaller c =
     let t = c.args.tree.now in
     let r = ready t.sig.now t.n t.accepted t.counted in
     let (i, low, high, up, level) = c.loop-up.invariant in
-    omega (arith, up, (r.facts.each i low high).fa_high, c.parent-up-in-loop-up.ensures, (r.facts.each c.loop-up.up (omega arith) (omega (arith, up, (r.facts.each i low high).fa_high, high))).fa_high)
+    omega (arith, up, (r.facts.each i low high).fa_high, (r.facts.each c.loop-up.up (omega arith) (omega (arith, up, (r.facts.each i low high).fa_high, high))).fa_high)
 
 pub loop-up-preserved : goal.loop-up-preserved
 loop-up-preserved c =
     let t = c.args.tree.now in
     let r = ready t.sig.now t.n t.accepted t.counted in
-    let (i, low, high, up, level) = c.loop-up.invariant in
-    (
+    let (i, low, high, up, level) = c.loop-up.invariant in (
       c.loop-up.up,
       omega arith,
       omega (arith, up, (r.facts.each i low high).fa_high, high),
-      c.parent-up-in-loop-up.ensures,
+      omega arith,
       omega (arith, level, level_up _ _ r.facts i low high (omega (arith, up)), ap (level_of t.n (entries_of width t.sig.now).fa) up),
     )
 

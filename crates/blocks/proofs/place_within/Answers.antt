@@ -1,5 +1,6 @@
 -- A rank over n is refused; ff says where the block of any other ends.
-use Rattle.std.proofs.Common.{sym, ap, ◌∙◌, ℕ, ◌*◌, ◌-◌, arith}
+use Rattle.std.proofs.Common.{sym, ap, ◌∙◌, ◌≡◌, ℕ, ◌*◌, ◌-◌, arith}
+use Rattle.trees.specs.Signature.{entries_of, width}
 use Rattle.terms.specs.declared.Refusal.{Refusal}
 use Rattle.blocks.specs.Checked.{is_rank}
 use Rattle.blocks.specs.Block.{place_worked, place_refused}
@@ -20,9 +21,10 @@ pub overflow_sub-result-2 : goal.overflow_sub-result-2
 overflow_sub-result-2 c =
     let t = c.args.tree.now in
     let k = rank_inverse _ _ (sym c.is_rank.ensures ∙ c.if-not-is_rank.false) in
-    omega (arith, ((ready t.sig.now t.n t.accepted t.counted).facts.each c.args.i k.low k.high).ff_low, c.from-first.ensures, c.from-past.ensures, c.first_past.ensures)
+    omega (arith, ((ready t.sig.now t.n t.accepted t.counted).facts.each c.args.i k.low k.high).ff_low)
 
 pub returns : goal.returns
 returns c =
-    (λ i. place_worked (4 * (c.from-first.ensures i - 1)) (4 * ((c.from-past.ensures ∙ c.first_past.ensures) i - c.from-first.ensures i)))
+    let past : c.from-past.result ≡ (entries_of width c.args.tree.now.sig.now).ff c.args.i = omega arith in
+    (λ i. place_worked (4 * (c.from-first.ensures i - 1)) (4 * (past i - c.from-first.ensures i)))
     ∙ sym (place_yes _ _ (ap (λ (n : ℕ). is_rank n c.args.i) (sym c.args.tree.now.counted) ∙ sym c.is_rank.ensures ∙ c.if-not-is_rank.false))

@@ -23,12 +23,11 @@ overflow_add-count c =
 pub loop-j-preserved : goal.loop-j-preserved
 loop-j-preserved c =
     let m = c.args.marks.now in
-    let (i, at, count) = c.loop-j.invariant in
-    (
+    let (i, at, count) = c.loop-j.invariant in (
       c.loop-j.j,
       refl,
       count_next (marked m) i _ _ (c.from-count.ensures ∙ ap (λ (x : ℕ). bool_byte (marked m x)) at) count
-      ∙ ap (λ (x : ℕ). length (up_to x (marked m))) (sym at),
+          ∙ ap (λ (x : ℕ). length (up_to x (marked m))) (sym at),
     )
 
 pub returns : goal.returns

@@ -9,7 +9,7 @@ loop-c-init c = rising_is _ _
 pub returns-then-c-last : goal.returns-then-c-last
 returns-then-c-last c =
     elim c.then-c-last.branch [
-      then-c-last-via-then-c-last w ↦ sym (c.loop-c.invariant ∙ rising_low _ _ _ _ c.loop-c-test.true (omega arith))
+      | then-c-last-via-then-c-last w ↦ sym (c.loop-c.invariant ∙ rising_low _ _ _ _ c.loop-c-test.true (omega arith))
       | then-c-last-via-else-c-last+then-n-c w ↦ sym (c.loop-c.invariant ∙ rising_high _ _ _ _ c.loop-c-test.true (omega arith))
     ]
 

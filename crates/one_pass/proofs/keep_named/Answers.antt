@@ -20,7 +20,7 @@ loop-j-preserved c =
     let F : ℕ → Bool = λ k. marked m₀ k && named k in
     let old : marked l.found l.j ≡ marked m₀ l.j = upward_old t.n F m₀ l.j l.found i.done (omega arith) (omega arith) in
     let kept : c.if-found-at.found ≡ F l.j = elim c.if-found-at.branch [
-      then-found-at w ↦ w.found-is ∙ w.is_named.ensures ∙ sym (ap (λ (b : Bool). b && named l.j) (sym old ∙ w.if-found-at.true))
+      | then-found-at w ↦ w.found-is ∙ w.is_named.ensures ∙ sym (ap (λ (b : Bool). b && named l.j) (sym old ∙ w.if-found-at.true))
       | else-found-at w ↦ w.found-is ∙ w.if-found-at.false ∙ sym (ap (λ (b : Bool). b && named l.j) (sym old ∙ w.if-found-at.false))
     ] in
     record {

@@ -39,8 +39,7 @@ loop-before-preserved c =
     let l = c.loop-before in
     let name = (entries_of width a.sig.now).name in
     let b = c.is_named-named.ensures ∙ sym (after_late a.after a.test name (l.before + 1) (omega arith)) in
-    rw c.from-met.ensures
-    (
+    rw c.from-met.ensures (
       count_next (named_after a.after a.test name) l.before l.met _ l.invariant.0 b,
       named_below l.met a.p c.is_named-named.result l.invariant.1 (rw c.from-met.ensures at c.if-named-met.false),
     )

@@ -12,11 +12,6 @@ returns-then-room-size c =
     let t = c.requires in
     short_with _ _ _ _ c.into.ensures refl (omega (arith, back_length a.sig.now t.0 t.1, signature_long a.sig.now t.0 t.1))
 
-pub overflow_cast-size : goal.overflow_cast-size
-overflow_cast-size c =
-    let t = c.requires in
-    omega (arith, t.2, signature_long c.args.sig.now t.0 t.1)
-
 pub write_tags-requires : goal.write_tags-requires
 write_tags-requires c =
     let t = c.requires in

@@ -26,7 +26,7 @@ overflow_add-met c =
     omega (
       arith,
       before_small t.n e f c.args.c c.requires.2 q.name i _ met (omega (arith, at)) _ _ (c.first_past-past.ensures ∙ ap e.ff at)
-      (c.is_named.ensures ∙ ap (λ (x : ℕ). passes q.name (e.name x)) at),
+          (c.is_named.ensures ∙ ap (λ (x : ℕ). passes q.name (e.name x)) at),
       c.from-met.ensures,
       t.small,
     )
@@ -40,8 +40,8 @@ returns-then-met-p c =
     let (i, at, met, less) = c.loop-j.invariant in
     subst (Kept 8 t.sig.now t.n q.name c.args.p c.args.c) (sym at)
     (
-      before_here t.n e f c.args.c c.requires.2 q.name i _ met (omega (arith, at)) _ _ (c.first_past-past.ensures ∙ ap e.ff at)
-      (c.is_named.ensures ∙ ap (λ (x : ℕ). passes q.name (e.name x)) at) c.args.p c.requires.0 less (rw c.from-met.ensures at c.if-met-p.true)
+    before_here t.n e f c.args.c c.requires.2 q.name i _ met (omega (arith, at)) _ _ (c.first_past-past.ensures ∙ ap e.ff at)
+    (c.is_named.ensures ∙ ap (λ (x : ℕ). passes q.name (e.name x)) at) c.args.p c.requires.0 less (rw c.from-met.ensures at c.if-met-p.true)
     )
 
 pub loop-j-preserved : goal.loop-j-preserved
@@ -51,12 +51,11 @@ loop-j-preserved c =
     let e = entries_of width t.sig.now in
     let f = (ready _ _ t.accepted t.counted).facts in
     let (i, at, met, less) = c.loop-j.invariant in
-    rw c.from-met.ensures
-    (
+    rw c.from-met.ensures (
       i + 1,
       ap (λ (x : ℕ). x + 1) at,
       before_count t.n e f c.args.c c.requires.2 q.name i _ met (omega (arith, at)) _ _ (c.first_past-past.ensures ∙ ap e.ff at)
-      (c.is_named.ensures ∙ ap (λ (x : ℕ). passes q.name (e.name x)) at),
+          (c.is_named.ensures ∙ ap (λ (x : ℕ). passes q.name (e.name x)) at),
       count_below (leb c.first_past-past.result c.args.c && c.is_named.result) _ _ c.args.p refl less (rw c.from-met.ensures at c.if-met-p.false),
     )
 

@@ -13,8 +13,7 @@ loop-j-init c =
     let t = q.tree in
     let e = entries_of width t.sig.now in
     let f = (ready _ _ t.accepted t.counted).facts in
-    let a = c.args in
-    (
+    let a = c.args in (
       c.requires.1,
       omega arith,
       count_start (λ i. in_row e a.up a.after a.last i && passes q.name (e.name i)) a.after (λ i l h. row_early t.n e f q.name a.up a.after a.last i h),
@@ -71,8 +70,7 @@ loop-j-preserved c =
     let j = c.loop-j.j in
     let x = c.first_past-j.ensures in
     let (row, low, met, less) = c.loop-j.invariant in
-    rw c.from-met.ensures
-    (
+    rw c.from-met.ensures (
       row_next t.n e f q.name a.up a.after a.last j row (omega arith) _ x,
       omega (arith, x, (f.each (j + 1) (omega arith) (omega (arith, row.high))).ff_low, low),
       met_next t.n e f q.name a.up a.after a.last j row low c.loop-j.met met (omega arith) _ c.is_named.ensures _ x,
