@@ -6,7 +6,7 @@
 --   walk_read, fit_read        what is read where the phase or the stage is at most 2
 --   walk_back, fit_back        the same as numbers back, where the numbers stand for a state
 --   sixteen_set                three numbers set behind sixteen are a walk's last three
-use Rattle.std.specs.Prelude.{ℕ, zero, suc, ◌+◌, ◌≤◌, ◌<◌, ◌≡◌, refl, Bool, true, false, List, [], ◌∷◌, ◌++◌, eqb, ltb, length, get_or, drop, slice_set}
+use Rattle.std.specs.Prelude.{ℕ, zero, suc, ◌+◌, ◌≤◌, ◌≡◌, refl, Bool, true, false, List, [], ◌∷◌, ◌++◌, eqb, length, get_or, drop, slice_set}
 use Rattle.std.proofs.Common.{ap, ◌∙◌, sym, subst, arith, drop_of_length-le, drop-cons, eqb-true, le-ltb}
 use Rattle.std.proofs.lemmas.Bool.{eqb-false, ltb-false}
 use Rattle.turns.specs.Pick.{pick}
