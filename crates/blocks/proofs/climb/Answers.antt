@@ -5,9 +5,6 @@ use Rattle.xpath.specs.Levels.{level_root, level_up, level_high}
 use Rattle.blocks.proofs.Calls.{ready}
 use Rattle.blocks.proofs.climb.Goals as goal
 
-pub loop-up-init : goal.loop-up-init
-loop-up-init c = (c.args.start, c.requires.0, c.requires.1, c.parent-up.ensures, omega arith)
-
 pub overflow_add-level : goal.overflow_add-level
 overflow_add-level c =
     let t = c.args.tree.now in

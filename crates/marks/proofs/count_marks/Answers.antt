@@ -29,8 +29,3 @@ loop-j-preserved c =
       count_next (marked m) i _ _ (c.from-count.ensures ∙ ap (λ (x : ℕ). bool_byte (marked m x)) at) count
           ∙ ap (λ (x : ℕ). length (up_to x (marked m))) (sym at),
     )
-
-pub returns : goal.returns
-returns c =
-    let (i, at, count) = c.loop-j.invariant in
-    count ∙ ap (λ (x : ℕ). length (up_to x (marked c.args.marks.now))) (omega (arith, at))

@@ -39,8 +39,3 @@ loop-j-preserved c =
             w.room-is ∙ write_no P i _ _ h written ∙ ap (λ (x : ℕ). front (up_to x P) c.args.room.now) (sym at),
           )
     ]
-
-pub returns : goal.returns
-returns c =
-    let (i, at, count, written) = c.loop-j.invariant in
-    written ∙ ap (λ (x : ℕ). front (up_to x (marked c.args.marks.now)) c.args.room.now) (omega (arith, at))

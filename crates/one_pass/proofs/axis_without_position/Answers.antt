@@ -1,16 +1,9 @@
 -- The whole check comes first, then the arguments; where they refuse, the room is as it was. The marked ranks are the answer, so that writing them writes
 -- the answer.
-use Rattle.std.proofs.Common.{refl}
-use Rattle.std.proofs.lemmas.Result.{err_from_is_err_and}
 use Rattle.marks.proofs.Marking.{marks_none}
-use Rattle.marks.proofs.Calls.{leaves_as, judged_leaves}
+use Rattle.marks.proofs.Calls.{judged_leaves}
 use Rattle.one_pass.proofs.Unions.{marks_written}
 use Rattle.one_pass.proofs.axis_without_position.Goals as goal
-
-pub returns-in_err-request : goal.returns-in_err-request
-returns-in_err-request c =
-    let p = err_from_is_err_and c.from_residual.result c.from_residual.ensures.1 in
-    rw (p.1, p.2) (leaves_as _ _ _ _ (c.in_err-request.ensures.left 0 c.args.room.now) (record { told = refl; left = refl }))
 
 pub mark_union-requires : goal.mark_union-requires
 mark_union-requires c = marks_none _ c.in_ok-request.request.tree.small

@@ -1,7 +1,7 @@
 use Rattle.std.proofs.Common.{arith, ◌∙◌, eqb}
 use Rattle.std.proofs.lemmas.List.{length-set}
 use Rattle.xpath.specs.Rising.{within_at}
-use Rattle.one_pass.proofs.Contexts.{each_none, each_more, each_done, marked_set}
+use Rattle.one_pass.proofs.Contexts.{each_none, each_more, marked_set}
 use Rattle.one_pass.proofs.mark_contexts.Goals as goal
 
 pub loop-c-init : goal.loop-c-init
@@ -20,6 +20,3 @@ loop-c-preserved c =
     let s = l.invariant.long in
     each_more q.tree.n (λ x j. eqb x j) q.contexts.now l.c-index l.from _ (omega arith) l.invariant
     (record { long = length-set l.from _ _ ∙ s; are = λ j x y. marked_set l.from _ j (omega (arith, s, r.high, q.tree.small)) })
-
-pub returns : goal.returns
-returns c = each_done _ (λ x j. eqb x j) _ c.loop-c.c-index _ (omega arith) c.loop-c.invariant

@@ -1,15 +1,11 @@
 use Rattle.std.proofs.Common.{arith, ◌∙◌}
 use Rattle.std.proofs.lemmas.List.{length-set}
 use Rattle.trees.specs.Signature.{entries_of, width}
-use Rattle.xpath.specs.Spread.{none_up}
 use Rattle.blocks.proofs.Calls.{ready}
-use Rattle.marks.proofs.Marking.{upward_none, upward_beside, upward_done}
+use Rattle.marks.proofs.Marking.{upward_beside}
 use Rattle.one_pass.specs.Reached.{reached}
 use Rattle.one_pass.proofs.Passes.{raised_up, below_is}
 use Rattle.one_pass.proofs.carried.mark_below.Goals as goal
-
-pub loop-j-init : goal.loop-j-init
-loop-j-init c = record { long = c.told-found; carried = none_up _ _; done = upward_none _ _ _ }
 
 pub loop-j-preserved : goal.loop-j-preserved
 loop-j-preserved c =
@@ -23,8 +19,3 @@ loop-j-preserved c =
       done = upward_beside t.n (reached 2 t.sig.now t.n from) c.args.found.now l.j (omega arith) (omega arith) l.found (omega (arith, i.long, t.small)) _
           (below_is t.sig.now t.n (ready _ _ t.accepted t.counted) from l.j (omega arith) (omega arith) l.reach i.carried) i.done;
     }
-
-pub returns : goal.returns
-returns c =
-    let i = c.loop-j.invariant in
-    upward_done _ _ _ c.loop-j.j _ (omega arith) i.long i.done

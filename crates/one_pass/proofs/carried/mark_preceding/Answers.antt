@@ -1,14 +1,10 @@
 use Rattle.std.proofs.Common.{arith, ◌∙◌, ◌-◌, ◌+◌, ◌≡◌}
 use Rattle.std.proofs.lemmas.List.{length-set}
-use Rattle.xpath.specs.Spread.{none_down}
 use Rattle.blocks.proofs.Calls.{ready}
-use Rattle.marks.proofs.Marking.{downward_none, downward_beside, downward_done}
+use Rattle.marks.proofs.Marking.{downward_beside}
 use Rattle.one_pass.specs.Reached.{reached}
 use Rattle.one_pass.proofs.Passes.{raised_down, preceding_is}
 use Rattle.one_pass.proofs.carried.mark_preceding.Goals as goal
-
-pub loop-j-init : goal.loop-j-init
-loop-j-init c = record { long = c.told-found; carried = none_down _ _ _; done = downward_none _ _ _ _ (omega arith) }
 
 pub loop-j-preserved : goal.loop-j-preserved
 loop-j-preserved c =
@@ -24,8 +20,3 @@ loop-j-preserved c =
       done = downward_beside t.n (reached 8 t.sig.now t.n from) c.args.found.now k (omega arith) (omega arith) l.found (omega (arith, i.long, t.small)) _
           (preceding_is t.sig.now t.n (ready _ _ t.accepted t.counted) from k (omega arith) (omega arith) l.last l.j e _ c.first_past-past.ensures i.carried) l.j e i.done;
     }
-
-pub returns : goal.returns
-returns c =
-    let i = c.loop-j.invariant in
-    downward_done _ _ _ c.loop-j.j _ (omega arith) i.long i.done

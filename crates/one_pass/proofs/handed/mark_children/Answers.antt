@@ -1,13 +1,10 @@
 use Rattle.std.proofs.Common.{arith, ◌∙◌}
 use Rattle.std.proofs.lemmas.List.{length-set}
 use Rattle.blocks.proofs.Calls.{ready}
-use Rattle.marks.proofs.Marking.{upward_none, upward_beside, upward_done}
+use Rattle.marks.proofs.Marking.{upward_beside}
 use Rattle.one_pass.specs.Reached.{reached}
 use Rattle.one_pass.proofs.Passes.{child_is, parent_small}
 use Rattle.one_pass.proofs.handed.mark_children.Goals as goal
-
-pub loop-j-init : goal.loop-j-init
-loop-j-init c = record { long = c.told-found; done = upward_none _ _ _ }
 
 pub is_marked_above-requires : goal.is_marked_above-requires
 is_marked_above-requires c =
@@ -25,8 +22,3 @@ loop-j-preserved c =
       done = upward_beside t.n (reached 1 t.sig.now t.n from) c.args.found.now l.j (omega arith) (omega arith) l.found (omega (arith, i.long, t.small)) _
           (child_is t.sig.now t.n (ready _ _ t.accepted t.counted) from l.j (omega arith) (omega arith) _ _ c.parent-up.ensures c.is_marked_above.ensures) i.done;
     }
-
-pub returns : goal.returns
-returns c =
-    let i = c.loop-j.invariant in
-    upward_done _ _ _ c.loop-j.j _ (omega arith) i.long i.done

@@ -3,7 +3,7 @@ use Rattle.std.proofs.lemmas.List.{length-set}
 use Rattle.trees.specs.Signature.{entries_of, width}
 use Rattle.xpath.proofs.SpreadKids.{kids_none}
 use Rattle.blocks.proofs.Calls.{ready}
-use Rattle.marks.proofs.Marking.{marks_none, downward_none, downward_beside, downward_done}
+use Rattle.marks.proofs.Marking.{marks_none, downward_none, downward_beside}
 use Rattle.one_pass.specs.Reached.{reached}
 use Rattle.one_pass.proofs.Passes.{parent_small, earlier_is, handed_down}
 use Rattle.one_pass.proofs.handed.mark_earlier.Goals as goal
@@ -56,8 +56,3 @@ loop-j-preserved c =
       done = downward_beside t.n (reached 10 t.sig.now t.n from) c.args.found.now k (omega arith) (omega arith) l.found (omega (arith, i.long, t.small)) _
           (earlier_is t.sig.now t.n r from k (omega arith) (omega arith) _ _ u l.seen c.is_marked_above.ensures l.j e i.handed) l.j e i.done;
     }
-
-pub returns : goal.returns
-returns c =
-    let i = c.loop-j.invariant in
-    downward_done _ _ _ c.loop-j.j _ (omega arith) i.long i.done

@@ -3,7 +3,7 @@ use Rattle.std.proofs.lemmas.List.{length-set}
 use Rattle.trees.specs.Signature.{entries_of, width}
 use Rattle.xpath.proofs.SpreadKids.{kids_none}
 use Rattle.blocks.proofs.Calls.{ready}
-use Rattle.marks.proofs.Marking.{marks_none, upward_none, upward_beside, upward_done}
+use Rattle.marks.proofs.Marking.{marks_none, upward_none, upward_beside}
 use Rattle.one_pass.specs.Reached.{reached}
 use Rattle.one_pass.proofs.Passes.{parent_small, later_is, handed_up}
 use Rattle.one_pass.proofs.handed.mark_later.Goals as goal
@@ -54,8 +54,3 @@ loop-j-preserved c =
       done = upward_beside t.n (reached 9 t.sig.now t.n from) c.args.found.now l.j (omega arith) (omega arith) l.found (omega (arith, i.long, t.small)) _
           (later_is t.sig.now t.n r from l.j (omega arith) (omega arith) _ _ u l.seen c.is_marked_above.ensures i.handed) i.done;
     }
-
-pub returns : goal.returns
-returns c =
-    let i = c.loop-j.invariant in
-    upward_done _ _ _ c.loop-j.j _ (omega arith) i.long i.done
