@@ -1,7 +1,8 @@
 // Layer 2, entries: the numbers of an entry, for every caller and every rank.
 #![tactic(auto)]
 
-ghost use Rattle.std.specs.Prelude.{◌≡◌, get_or};
+ghost use Rattle.std.specs.Prelude.{◌≡◌, ◌∷◌, get_or};
+ghost use Rattle.trees.specs.Names.{passes};
 ghost use Rattle.trees.specs.Signature.{cell, entries_of, width};
 
 use terms::PreRank;
@@ -44,4 +45,21 @@ pub fn parent(sig: &[u16], i: u16) -> u16
     ensures { result ≡ (entries_of width sig.now).fa i }
 {
     entry_number(sig, PreRank(i), 3)
+}
+
+// Whether an entry's name passes for one that is wanted, where 0 asks for any name.
+pub fn is_passing(wanted: u16, name: u16) -> bool
+    ensures { result ≡ passes wanted name }
+{
+    (wanted == 0) | (wanted == name)
+}
+
+// Number i of a list that is counted from 1, or 0 outside it.
+pub fn listed(list: &[u16], i: u16) -> u16
+    ensures { result ≡ get_or (0 ∷ list.now) i 0 }
+{
+    if i == 0 {
+        return 0;
+    }
+    number_or_zero(list, usize::from(i) - 1)
 }
