@@ -14,7 +14,7 @@ ghost use Rattle.marks.specs.Axis.{JudgedFine};
 ghost use Rattle.marks.specs.Marks.{marked, lesser};
 
 pub use axis_numbers::Axis;
-use entries::name;
+use entries::{is_passing, name};
 pub use request::Request;
 use terms::{Fault, PreRank, Refusal};
 
@@ -73,7 +73,7 @@ fn write_marks(n: u16, marks: &[bool; 4097], room: &mut [u16])
 pub fn is_named(sig: &[u16], test: u16, rank: PreRank) -> bool
     ensures { result ≡ passes test ((entries_of width sig.now).name rank.0) }
 {
-    test == 0 || test == name(sig, rank.0)
+    is_passing(test, name(sig, rank.0))
 }
 
 // Writes those of the ranks 1 to n, and to 4,096 at most, that have a mark to the front of the room, or refuses a room that is too small.
