@@ -14,7 +14,7 @@ ghost use Rattle.axes.specs.Kept.{Kept};
 use along::{find_before, find_row};
 use climb::find_above;
 use entries::{first_past, parent};
-use marks::{Axis, Request, write_marked};
+use marks::{Axis, Request, write_ranks};
 use one_pass::axis_without_position;
 use searching::find_named;
 use terms::Refusal;
@@ -71,7 +71,7 @@ fn axis_with_position(
     let request = Request::judge(sig, contexts, axis, name)?;
     let mut marks = [false; 4097];
     mark_each(&request, position, &mut marks);
-    write_marked(request.tree.n, &marks, room)
+    write_ranks(request.tree.n, &marks, room)
 }
 
 // The elements on an axis of the contexts, a list of ranks as elements open. Name 0 asks for any name, position 0 for none.

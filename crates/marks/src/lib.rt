@@ -11,7 +11,7 @@ ghost use Rattle.xpath.specs.SelectLaws.{front};
 ghost use Rattle.trees.specs.Signature.{entries_of, width};
 ghost use Rattle.terms.specs.Room.{room_for, Leaves};
 ghost use Rattle.marks.specs.Axis.{JudgedFine};
-ghost use Rattle.marks.specs.Marks.{marked, lesser};
+ghost use Rattle.marks.specs.Marks.{marked, numbered, lesser};
 
 pub use axis_numbers::Axis;
 use entries::{is_passing, name};
@@ -77,7 +77,7 @@ pub fn is_named(sig: &[u16], test: u16, rank: PreRank) -> bool
 }
 
 // Writes those of the ranks 1 to n, and to 4,096 at most, that have a mark to the front of the room, or refuses a room that is too small.
-pub fn write_marked(n: u16, marks: &[bool; 4097], room: &mut [u16]) -> Result<usize, Refusal>
+pub fn write_ranks(n: u16, marks: &[bool; 4097], room: &mut [u16]) -> Result<usize, Refusal>
     ensures { Leaves (room_for room.old (up_to (lesser n 4096) (marked marks.now))) result room.new }
 {
     let last = n.min(4096);
@@ -87,4 +87,15 @@ pub fn write_marked(n: u16, marks: &[bool; 4097], room: &mut [u16]) -> Result<us
     }
     write_marks(last, marks, room);
     Ok(count)
+}
+
+// The same for a caller whose marks are numbers: 1 is a mark, and every other number is none.
+pub fn write_marked(n: u16, marks: &[u8; 4097], room: &mut [u16]) -> Result<usize, Refusal>
+    ensures { Leaves (room_for room.old (up_to (lesser n 4096) (numbered marks.now))) result room.new }
+{
+    let mut are_set = [false; 4097];
+    for j in 0..4097 {
+        are_set[j] = marks[j] == 1;
+    }
+    write_ranks(n, &are_set, room)
 }

@@ -17,7 +17,7 @@ mod handed;
 use blocks::Accepted;
 use carried::{mark_above, mark_below, mark_following, mark_preceding};
 use handed::{mark_children, mark_earlier, mark_later, mark_parents};
-use marks::{Axis, Request, is_named, write_marked};
+use marks::{Axis, Request, is_named, write_ranks};
 use terms::{PreRank, Refusal};
 
 // Marks the contexts, where nothing has a mark.
@@ -102,5 +102,5 @@ pub fn axis_without_position(
     let request = Request::judge(sig, contexts, axis, name)?;
     let mut marks = [false; 4097];
     mark_union(&request, &mut marks);
-    write_marked(request.tree.n, &marks, room)
+    write_ranks(request.tree.n, &marks, room)
 }

@@ -19,4 +19,4 @@ pub returns : goal.returns
 returns c =
     let q = c.in_ok-request.request in
     judged_leaves c.in_ok-request.ensures q.tree.counted c.args.position _ _ _
-    (marks_written _ q.tree.small _ _ _ _ _ c.mark_each.ensures c.write_marked.ensures)
+    (marks_written _ q.tree.small _ _ _ _ _ c.mark_each.ensures c.write_ranks.ensures)
