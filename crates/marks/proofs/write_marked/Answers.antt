@@ -30,5 +30,5 @@ returns c =
     ] in
     let w = c.write_ranks.ensures in
     let e : room_for c.args.room.now (up_to (lesser c.args.n 4096) (marked l.are_set)) ≡ room_for c.args.room.now (up_to (lesser c.args.n 4096) (numbered c.args.marks.now)) =
-        λ i. room_for c.args.room.now (up_to (lesser c.args.n 4096) (λ k. all k i)) in
+    λ i. room_for c.args.room.now (up_to (lesser c.args.n 4096) (λ k. all k i)) in
     record { told = w.told ∙ ap (λ (x : Left). x.answer) e; left = w.left ∙ ap (λ (x : Left). x.room) e }
