@@ -75,7 +75,8 @@ fn axis_with_position(
 }
 
 // The elements on an axis of the contexts, a list of ranks as elements open. Name 0 asks for any name, position 0 for none.
-// The answer is written to the front of the room, ascending, each rank once.
+// The answer is written to the front of the room, ascending, each rank once. The axis is a number, as C hands it in: the 8 for one over 10 has its place in
+// the order of refusals.
 pub fn axis(
     sig: &[u16],
     contexts: &[u16],

@@ -8,7 +8,7 @@ ghost use Rattle.checking.specs.Whole.{WholePromise};
 
 mod steps;
 
-use steps::run;
+use steps::Checking;
 use terms::{Fault, Kind, PostRank, PreRank, Refusal, Stop, Turn, test_length};
 
 // The saved state of a check: the next entry, the innermost open element, and the last rank given as elements close.
@@ -51,7 +51,8 @@ impl CheckState {
         if !self.is_in_range(n) {
             return Turn::refused(self, Fault::BadState.into());
         }
-        run(sig, n, kind.any_name(), budget, self)
+        let any_name = kind.any_name();
+        Checking { sig, n, any_name }.run(budget, self)
     }
 }
 

@@ -1,4 +1,5 @@
-// Passes that carry one number along: below and following from the first entry up, above and preceding from the last one down.
+// Passes that carry one number along: below and following from the first entry up, above and preceding from the last one down. They stay four, each a `for` of
+// three lines: one pass with a closure for what is carried, one for the test and a direction is longer.
 ghost use Rattle.std.specs.Prelude.{◌≡◌};
 ghost use Rattle.xpath.specs.Spread.{raised_to, lowered_to};
 ghost use Rattle.marks.specs.Marks.{Marked};

@@ -8,7 +8,8 @@ ghost use Rattle.searching.specs.Only.{Only, named_after};
 use marks::is_named;
 use terms::PreRank;
 
-// The rank of the p-th element after one rank, up to another, whose name passes the test; or 0. There is no element with position 0.
+// The rank of the p-th element after one rank, up to another, whose name passes the test; or 0. There is no element with position 0. It answers 0 and no
+// `Option`, because `Only` says of 0 that there is none.
 pub fn find_named(sig: &[u16], test: u16, p: u16, after: u16, last: u16) -> u16
     ensures { Only last (pth 0 p (named_after after test (entries_of width sig.now).name)) result }
 {

@@ -58,7 +58,7 @@ pub fn tell<T: Told<N>, const N: usize>(answer: Result<T, Refusal>, out: &mut [u
     }
 }
 
-// The length of a result that was written into lent room. out: length, entry.
+// The length of a result that was written into lent room. out: length, entry. The cast is no `From`: the library has none from usize to u64.
 impl Told<2> for usize {
     ghost says = { λ a r out. AnswerTold (answered a) r out };
 

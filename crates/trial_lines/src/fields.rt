@@ -65,7 +65,7 @@ pub fn front<T>(list: &[T], n: usize) -> &[T]
 #[derive(Clone, Copy)]
 pub struct UnknownWord(pub u16);
 
-// A number of a line as a budget: 65,535 stands for the greatest one.
+// A number of a line as a budget: 65,535 stands for the greatest one. No `From`: no budget elsewhere is so told.
 pub fn great(x: u16) -> u64 {
     if x == u16::MAX {
         u64::MAX
@@ -74,7 +74,7 @@ pub fn great(x: u16) -> u64 {
     }
 }
 
-// The kind of tree that a word names by its first letter, `twig` or another.
+// The kind of tree that a word names by its first letter, `twig` or another. No `From`: that of `Kind` is of the C interface's numbers.
 pub fn kind_of(word: u16) -> Kind {
     if word == u16::from(b't') {
         Kind::Twig

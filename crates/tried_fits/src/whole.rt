@@ -16,7 +16,7 @@ pub struct Question<'a> {
     pub twig: &'a [u16],
 }
 
-// How many entries a list has.
+// How many entries a list has. The cast wraps by hand, since a list of any length is taken and the library's conversions do not wrap.
 fn entries(list: &[u16]) -> u16 {
     (list.len() / 4 % 65536) as u16
 }

@@ -33,13 +33,21 @@ returns-then-not-is_in_range c =
     (turn_range _ _ _ _ _ (sym f) (sym c.is_in_range.ensures ∙ c.if-not-is_in_range.true))
     (record { state = refl; steps = refl; stop = refl })
 
-pub run-requires : goal.run-requires
-run-requires c =
+pub invariant_of-run-clause-sized : goal.invariant_of-run-clause-sized
+invariant_of-run-clause-sized c =
     let z = start_sized c.args.kind _ _ (ap tested (sym c.in_default.is) ∙ c.test_length.ensures) refl in
-    (omega (arith, z.0), z.1, range_inverse _ _ (sym c.is_in_range.ensures ∙ c.if-not-is_in_range.false))
+    omega (arith, z.0)
+
+pub invariant_of-run-clause-small : goal.invariant_of-run-clause-small
+invariant_of-run-clause-small c =
+    let z = start_sized c.args.kind _ _ (ap tested (sym c.in_default.is) ∙ c.test_length.ensures) refl in
+    z.1
+
+pub run-requires : goal.run-requires
+run-requires c = range_inverse _ _ (sym c.is_in_range.ensures ∙ c.if-not-is_in_range.false)
 
 pub returns : goal.returns
 returns c =
     let f = ap tested (sym c.in_default.is) ∙ c.test_length.ensures in
     handed_as _ _ _ _ refl
-    (turn_run _ _ _ _ _ (sym f) (sym c.is_in_range.ensures ∙ c.if-not-is_in_range.false) ∙ run_any _ _ _ _ _ _ c.any_name.ensures) c.run.ensures
+    (turn_run _ _ _ _ _ (sym f) (sym c.is_in_range.ensures ∙ c.if-not-is_in_range.false) ∙ run_any _ _ _ _ _ _ c.any_name-any_name.ensures) c.run.ensures

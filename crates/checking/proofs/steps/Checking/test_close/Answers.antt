@@ -4,7 +4,7 @@ use Rattle.checking.proofs.Cases.{close_none, close_full, close_post, close_ff, 
 use Rattle.checking.proofs.Plain.{number_is, number_moved}
 use mathlib.Core.Path.{◌≡◌, sym, ◌∙◌}
 use native.Mathlib.Omega.{arith}
-use Rattle.checking.proofs.steps.test_close.Goals as goal
+use Rattle.checking.proofs.steps.Checking.test_close.Goals as goal
 
 pub returns-then-top-eq0 : goal.returns-then-top-eq0
 returns-then-top-eq0 c = sym (number_is _ _ _ (close_none _ _ c.if-top-eq0.true))
@@ -33,11 +33,11 @@ number-up-requires c = (omega arith, omega arith, c.requires.0)
 pub returns-then-up-top : goal.returns-then-up-top
 returns-then-up-top c =
     let post = sym c.number-post.ensures ∙ c.if-post-closed.false in
-    let ff : cell width c.args.sig.now c.args.top 2 ≡ c.args.i = omega (arith, c.number-ff.ensures) in
+    let ff : cell width c.args.self.sig.now c.args.top 2 ≡ c.args.i = omega (arith, c.number-ff.ensures) in
     sym (number_moved _ _ (close_moved _ _ c.if-top-eq0.false c.if-closed-i.false post ff (omega arith)))
 
 pub returns-else-up-top : goal.returns-else-up-top
 returns-else-up-top c =
     let post = sym c.number-post.ensures ∙ c.if-post-closed.false in
-    let ff : cell width c.args.sig.now c.args.top 2 ≡ c.args.i = omega (arith, c.number-ff.ensures) in
+    let ff : cell width c.args.self.sig.now c.args.top 2 ≡ c.args.i = omega (arith, c.number-ff.ensures) in
     sym (number_is _ _ _ (close_fa _ _ c.if-top-eq0.false c.if-closed-i.false post ff (omega arith)))

@@ -5,10 +5,10 @@ use Rattle.checking.proofs.Inverse.{step_ranges, step_before}
 use Rattle.checking.proofs.Plain.{taken_moved}
 use mathlib.Core.Path.{refl, sym, ◌∙◌}
 use native.Mathlib.Omega.{arith}
-use Rattle.checking.proofs.steps.run.Goals as goal
+use Rattle.checking.proofs.steps.Checking.run.Goals as goal
 
 pub refusal-requires : goal.refusal-requires
-refusal-requires c = (c.requires.0, c.requires.1, c.loop-steps.invariant.within, sym c.step.ensures ∙ c.in_default.is)
+refusal-requires c = record { ranges = c.loop-steps.invariant.within; stuck = sym c.step.ensures ∙ c.in_default.is }
 
 pub returns-then-is_accepted : goal.returns-then-is_accepted
 returns-then-is_accepted c =

@@ -5,7 +5,7 @@ use Rattle.checking.specs.Plain.{taken}
 use Rattle.checking.proofs.Plain.{close_some, step_entry, step_opens, step_shuts, step_close, stuck_close}
 use mathlib.Core.Path.{refl, sym, ap, ◌∙◌}
 use native.Mathlib.Omega.{arith}
-use Rattle.checking.proofs.steps.step.Goals as goal
+use Rattle.checking.proofs.steps.Checking.step.Goals as goal
 
 pub returns-in_err-ok : goal.returns-in_err-ok
 returns-in_err-ok c =

@@ -4,10 +4,10 @@ use Rattle.checking.specs.Rule.{Ranges}
 use Rattle.checking.specs.Plain.{rest_of}
 use mathlib.Core.Path.{◌≡◌}
 use Prim.Native.Nat.{◌-◌}
-use Rattle.checking.proofs.steps.run.Given as goal
+use Rattle.checking.proofs.steps.Checking.run.Given as goal
 
 abbrev pub invariant-loop-steps : goal.invariant-loop-steps
 invariant-loop-steps l = record {
-  within : Ranges l.n l.state;
-  same : rest_of l.any_name l.n (entries_of width l.sig) l.budget 0 l.fn.start ≡ rest_of l.any_name l.n (entries_of width l.sig) (l.budget - l.steps) l.steps l.state;
+  within : Ranges l.self.n l.state;
+  same : rest_of l.self.any_name l.self.n (entries_of width l.self.sig.now) l.budget 0 l.fn.start ≡ rest_of l.self.any_name l.self.n (entries_of width l.self.sig.now) (l.budget - l.steps) l.steps l.state;
 }
