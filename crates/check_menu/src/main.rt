@@ -5,7 +5,7 @@ use checking::CheckState;
 use std::io;
 use terms::{Kind, Stop};
 
-// The sample menu: name, post, ff and fa of each element.
+// The sample menu: name, post, ff and fa of each element. It stands here and not in `trial_lines`, since a sample is read by itself.
 const TEN: [u16; 40] = [
     1, 10, 11, 0, 2, 5, 7, 1, 3, 3, 6, 2, 4, 1, 5, 3, 5, 2, 6, 3, 7, 4, 7, 2, 6, 9, 11, 1, 8, 8,
     11, 7, 9, 6, 10, 8, 10, 7, 11, 8,

@@ -142,7 +142,7 @@ impl Checking<'_> {
         (state.next.0 == self.n + 1) & (state.top.0 == 0)
     }
 
-    // Up to budget steps from a state within its ranges. The loop asks only whether a step is taken: what stopped it is found out once, behind it.
+    // Up to budget steps from a state within its ranges. The loop asks only whether a step is taken: what stopped it is found out once, where the loop ends.
     pub fn run(self, budget: u64, start: CheckState) -> Turn<CheckState>
         requires { Ranges self.n start }
         ensures { Handed result (run_of self.entry.any_name self.entry.n (entries_of width self.entry.sig.now) budget start) }

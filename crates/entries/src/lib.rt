@@ -11,7 +11,7 @@ use terms::PreRank;
 fn number_or_zero(sig: &[u16], at: usize) -> u16
     ensures { result ≡ get_or sig.now at 0 }
 {
-    if at < sig.len() { sig[at] } else { 0 }
+    sig.get(at).copied().unwrap_or(0)
 }
 
 // Number k of entry i for every caller: 0 past the end of the signature, and rank 0 reads as rank 1, so that every number may be handed in.

@@ -130,7 +130,7 @@ fn try_word(
 
 // A line whose first word names nothing to try prints nothing, and its table is written all the same. A table longer than there is is not tried.
 fn try_case(out: &mut impl Write, case: Case, table: &mut [u16]) -> io::Result<()> {
-    let [word, width, a, b, c, d, e, f, g] = case.numbers::<9>();
+    let [word, width, numbers @ ..] = case.numbers::<9>();
     let mut sig = [0; 16388];
     let mut twig = [0; 68];
     let trees = Trees {
@@ -143,7 +143,7 @@ fn try_case(out: &mut impl Write, case: Case, table: &mut [u16]) -> io::Result<(
     };
     out.write_all(case.label())?;
     match table.get_mut(..usize::from(width)) {
-        Some(lent) => try_word(out, tried, trees, lent, [a, b, c, d, e, f, g]),
+        Some(lent) => try_word(out, tried, trees, lent, numbers),
         None => Ok(()),
     }
 }

@@ -8,7 +8,7 @@ use terms::{Stop, Turn};
 use trial_lines::stopped;
 use walking::Walk;
 
-// The trees that a case asks about.
+// The trees that a case asks about. tried_ordered has its own, since methods stand in the crate of their type.
 #[derive(Clone, Copy)]
 pub struct Trees<'a> {
     pub sig: &'a [u16],

@@ -33,7 +33,7 @@ impl TryFrom<u16> for Tried {
     }
 }
 
-// The trees that a case asks about.
+// The trees that a case asks about. tried_loose has its own, since methods stand in the crate of their type.
 #[derive(Clone, Copy)]
 struct Trees<'a> {
     sig: &'a [u16],
