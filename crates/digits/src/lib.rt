@@ -1,10 +1,36 @@
 // Layer 5, digits: lines of words and numbers, as text in a lent room. A room that is too short gets as much of it as it has room for.
 #![tactic(auto)]
 
-ghost use Rattle.std.specs.Prelude.{◌≡◌, List, [], ◌∷◌, ◌++◌, ℕ, ◌+◌, ◌<◌};
+ghost use Rattle.std.specs.Prelude.{◌≡◌, List, [], ◌∷◌, ◌++◌, map, ℕ, ◌+◌, ◌<◌};
 ghost use Rattle.digits.specs.Printed.{Printed};
 ghost use Rattle.digits.specs.Decimal.{decimal};
 ghost use Rattle.digits.specs.Numbers.{numbers};
+
+// A number that is printed: of sixteen bits, as ranks are, or of sixty-four.
+pub trait Number: Copy {
+    // The number itself.
+    ghost value: { Self → ℕ };
+
+    // The same number in the widest type.
+    fn wide(self) -> u64
+        ensures { result ≡ value self };
+}
+
+impl Number for u16 {
+    ghost value = { λ number. number };
+
+    fn wide(self) -> u64 {
+        u64::from(self)
+    }
+}
+
+impl Number for u64 {
+    ghost value = { λ number. number };
+
+    fn wide(self) -> u64 {
+        self
+    }
+}
 
 // A lent room, and the place in it of the next byte.
 #[derive(Drop)]
@@ -53,12 +79,12 @@ impl Printer<'_> {
     }
 
     // Puts a word and numbers, with a space between two and the line feed after the last; without numbers there is no line feed.
-    pub fn put_line(&mut self, word: &[u8], list: &[u64])
-        ensures { Printed (word.now ++ numbers list.now) self.old self.new }
+    pub fn put_line<T: Number>(&mut self, word: &[u8], list: &[T])
+        ensures { Printed (word.now ++ numbers (map T.value list.now)) self.old self.new }
     {
         self.put_word(word);
         for (i, number) in list.iter().enumerate() {
-            self.put_decimal(*number);
+            self.put_decimal(number.wide());
             let after = if i + 1 < list.len() { b' ' } else { b'\n' };
             self.put_byte(after);
         }

@@ -13,7 +13,7 @@ use std::io::{Read, Write};
 // The rooms are arrays, since a `Vec` would add the heap's C functions to those whose contracts the program assumes (docs/PROMISES.md).
 // They are two functions, since the clause of each says that its size is the one that specs/ names, which a const parameter can't say.
 
-// One byte more than the longest input. The `ensures` gives only the length, which lending the array needs.
+// One byte more than the longest input.
 fn input_room() -> [u8; 24673]
     ensures { most_bytes + 1 ≡ length result }
 {
