@@ -1,5 +1,4 @@
--- Turns with a twig: what they judge before their first step, and their stops as one number.
+-- Turns with a twig: what they judge before their first step.
 pub mod Given
-pub mod Halts
 pub mod Grounds
 pub mod Refusals
