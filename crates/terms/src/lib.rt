@@ -1,4 +1,5 @@
-// Layer 2, terms: what the later layers speak in: ranks, refusals, stop reasons, the two kinds of tree and the test of a signature's length.
+// Layer 2, terms: what the later layers speak in: ranks, refusals, stop reasons, the two kinds of tree, the test of a signature's length, and the writing of a
+// result into lent room.
 #![tactic(auto)]
 
 ghost use Rattle.std.specs.Prelude.{◌≡◌};
