@@ -46,7 +46,7 @@ fn count_records(bytes: &[u8]) -> Result<u16, Fault>
     ensures { CountPromise bytes.now result }
 {
     let mut count = 0;
-    // No `for`: it stops at the end of the bytes or at the first faulty record.
+    // No `for`: how many records there are is known at the end only, or at the first faulty one.
     while !is_records_end(bytes, count) {
         test_record(bytes, count)?;
         count += 1;

@@ -4,13 +4,12 @@
 ghost use Rattle.std.specs.Prelude.{◌≡◌, ◌+◌, ◌*◌, ◌≤◌, length};
 ghost use Rattle.trees.specs.Signature.{width};
 ghost use Rattle.terms.specs.Faults.{tested};
-ghost use Rattle.terms.specs.Room.{left_by};
 ghost use Rattle.tag_building.specs.Filled.{FilledPromise, BuiltPromise};
 ghost use Rattle.tag_building.specs.Builds.{open_room, close_room, parent_in};
 
 use bytes_read::{is_marked, number_at};
 use tag_scan::{Cursor, Limits};
-use terms::{Fault, Kind};
+use terms::{Fault, Kind, give};
 
 // What reading came to, refused or not: the place where it stopped, the elements read, and its fault.
 #[derive(Clone, Copy)]
@@ -88,18 +87,6 @@ fn build_tree(limits: Limits, bytes: &[u8], whole: bool, from: usize, own: &mut 
     }
 }
 
-// Copies numbers to the front of the room. A room that is too short for them is left alone.
-#[tactic(auto, unfolding(terms::specs::Room::left_by, terms::specs::Room::room_for))]
-fn give_front(numbers: &[u16], room: &mut [u16]) -> Result<(), Fault>
-    ensures { (tested result ≡ (left_by 0 0 numbers.now room.old).answer.number) × (room.new ≡ (left_by 0 0 numbers.now room.old).room) }
-{
-    if room.len() < numbers.len() {
-        return Err(Fault::NoRoom);
-    }
-    room[..numbers.len()].copy_from_slice(numbers);
-    Ok(())
-}
-
 // Reads one tree from a place on, to the end of the bytes or to the close of its root. It builds the signature beside the room, so that a refusal at any tag
 // leaves the room alone.
 pub fn read_tags(kind: Kind, bytes: &[u8], whole: bool, from: usize, room: &mut [u16]) -> Judged
@@ -112,6 +99,6 @@ pub fn read_tags(kind: Kind, bytes: &[u8], whole: bool, from: usize, room: &mut 
     if built.verdict.is_err() {
         return built;
     }
-    let verdict = give_front(&own[..4 * usize::from(built.count)], room);
+    let verdict = give(&own[..4 * usize::from(built.count)], room);
     Judged { verdict, ..built }
 }

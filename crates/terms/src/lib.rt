@@ -1,4 +1,5 @@
-// Layer 2, terms: what the later layers speak in: ranks, refusals, stop reasons, the two kinds of tree and the test of a signature's length.
+// Layer 2, terms: what the later layers speak in: ranks, refusals, stop reasons, the two kinds of tree, the test of a signature's length, and the writing of a
+// result into lent room.
 #![tactic(auto)]
 
 ghost use Rattle.std.specs.Prelude.{◌≡◌};
@@ -6,6 +7,7 @@ ghost use Rattle.trees.specs.Signature.{width};
 ghost use Rattle.terms.specs.Faults.{number_of, refusal_at, tested};
 ghost use Rattle.terms.specs.Kinds.{any_name, kind_of, most};
 ghost use Rattle.terms.specs.Length.{length_fault};
+ghost use Rattle.terms.specs.Room.{room_for};
 ghost use Rattle.terms.specs.Stops.{refused_first};
 
 // A rank in the order in which elements open, counted from 1; 0 stands for none.
@@ -148,6 +150,19 @@ impl From<u16> for Kind {
     fn from(number: u16) -> Kind {
         if number == 0 { Kind::Data } else { Kind::Twig }
     }
+}
+
+// Copies numbers to the front of the room. A room that is too short for them is left alone.
+#[tactic(auto, unfolding(crate::specs::Room::room_for))]
+pub fn give(numbers: &[u16], room: &mut [u16]) -> Result<(), Fault>
+    ensures answer { tested result ≡ (room_for room.old numbers.now).answer.number }
+    ensures room { room.new ≡ (room_for room.old numbers.now).room }
+{
+    if room.len() < numbers.len() {
+        return Err(Fault::NoRoom);
+    }
+    room[..numbers.len()].copy_from_slice(numbers);
+    Ok(())
 }
 
 // The refusal of a signature of len numbers by its length alone.

@@ -2,6 +2,7 @@
 use mathlib.Core.Path.{ap, sym, ◌∙◌}
 use native.Mathlib.Omega.{arith}
 use Rattle.terms.proofs.Lengths.{most_small}
+use Rattle.terms.specs.Room.{left_by}
 use Rattle.tag_scan.specs.declared.limits.Limits.{Limits}
 use Rattle.tag_building.proofs.Filling.{filled_refused, filled_given}
 use Rattle.tag_building.proofs.Passing.{faulty, faultless}
@@ -19,7 +20,8 @@ returns-then-is_err c =
     _ _ _ _ _ c.build_tree-built.ensures (faulty _ (sym c.is_err.ensures.value ∙ c.if-is_err.true))
 
 pub returns : goal.returns
+unfolding left_by
 returns c =
-    let g = c.give_front-verdict.ensures in
+    let g = c.give-verdict.ensures in
     filled_given _ c.args.kind _ _ _ _ _ (ap (λ (x : Limits). x.any_name) c.from-limits.ensures) (ap (λ (x : Limits). x.most) c.from-limits.ensures)
-    _ _ _ _ _ c.build_tree-built.ensures (faultless _ (sym c.is_err.ensures.value ∙ c.if-is_err.false)) _ (omega arith) _ _ g.0 g.1
+    _ _ _ _ _ c.build_tree-built.ensures (faultless _ (sym c.is_err.ensures.value ∙ c.if-is_err.false)) _ (omega arith) _ _ g.answer g.room
