@@ -10,7 +10,7 @@ ghost use Rattle.xpath.specs.Select.{up_to, rises, within};
 ghost use Rattle.xpath.specs.SelectLaws.{front};
 ghost use Rattle.trees.specs.Signature.{entries_of, width};
 ghost use Rattle.terms.specs.Room.{room_for, Leaves};
-ghost use Rattle.marks.specs.Axis.{JudgedFine};
+ghost use Rattle.marks.specs.Axis.{fine_by_number};
 ghost use Rattle.marks.specs.Marks.{marked, numbered, lesser};
 
 pub use axis_numbers::Axis;
@@ -34,7 +34,7 @@ fn is_ascending(n: u16, contexts: &[u16]) -> bool
 
 // The axis with this number, where an axis call has no argument that is refused.
 pub fn fine_axis(n: u16, contexts: &[u16], axis: u16) -> Result<Axis, Fault>
-    ensures { JudgedFine axis n contexts.now result }
+    ensures { result ≡ fine_by_number axis n contexts.now }
 {
     let axis = Axis::try_from(axis)?;
     if !is_ascending(n, contexts) {
