@@ -12,6 +12,7 @@ use marks::{Request, is_named};
 use terms::PreRank;
 
 // The rank of the p-th element of a row, after one rank, up to another, whose name passes the test; or 0. From each element its ff leads to the next one.
+// It answers 0 and no `Option`, as `find_named` does: `Only` says of 0 that there is none.
 pub fn find_row(request: &Request, p: u16, up: u16, after: u16, last: u16) -> u16
     requires { (1 ≤ p) × Row request.now.tree.n (entries_of width request.now.tree.sig.now) up after last }
     ensures { Only request.now.tree.n (kept 1 p (λ j. in_row (entries_of width request.now.tree.sig.now) up after last j && passes request.now.name ((entries_of width request.now.tree.sig.now).name j))) result }
@@ -31,6 +32,8 @@ pub fn find_row(request: &Request, p: u16, up: u16, after: u16, last: u16) -> u1
 }
 
 // The rank of the p-th element that precedes the context c and passes the name test; or 0. What comes before c and is none of its ancestors ends before it.
+// It answers 0 and no `Option`, as `find_named` does: `Only` says of 0 that there is none. The loop is over `1..c + 1`, since the last turn of one over `1..=c` is
+// a goal of its own, which was tried and did not close.
 pub fn find_before(request: &Request, p: u16, c: u16) -> u16
     requires { (1 ≤ p) × (1 ≤ c) × (c ≤ request.now.tree.n) }
     ensures { Kept 8 request.now.tree.sig.now request.now.tree.n request.now.name p c result }

@@ -25,7 +25,7 @@ fn count_above(request: &Request, start: u16) -> u16
 }
 
 // The rank of the p-th element, in document order, that is met on the way up from start and passes the name test; or 0. Above it p - 1 pass, so that
-// it is met where what is left of their number falls below p.
+// it is met where what is left of their number falls below p. It answers 0 and no `Option`, as `find_named` does: `Only` says of 0 that there is none.
 pub fn find_above(request: &Request, p: u16, start: u16) -> u16
     requires { (1 ≤ p) × (start ≤ request.now.tree.n) }
     ensures { Kept 6 request.now.tree.sig.now request.now.tree.n request.now.name p start result }

@@ -14,13 +14,13 @@ ghost use Rattle.axes.specs.Kept.{Kept};
 use along::{find_before, find_row};
 use climb::find_above;
 use entries::{first_past, parent};
-use marks::{Axis, Request, write_ranks};
+use marks::{Axis, RankMarks, Request, write_ranks};
 use one_pass::axis_without_position;
 use searching::find_named;
 use terms::Refusal;
 
 // The rank of the element that is kept for the context c, or 0. Where all ranks of a range are on the axis, only the name is asked for; the ancestors of an
-// element are what is met on the way up from its parent.
+// element are what is met on the way up from its parent. It answers 0 and no `Option`, as `find_named` does: `Only` says of 0 that there is none.
 fn find_kept(request: &Request, p: u16, c: u16) -> u16
     requires { (1 ≤ p) × (1 ≤ c) × (c ≤ request.now.tree.n) }
     ensures { Kept (axis_number request.now.axis) request.now.tree.sig.now request.now.tree.n request.now.name p c result }
@@ -46,7 +46,7 @@ fn find_kept(request: &Request, p: u16, c: u16) -> u16
 }
 
 // Marks what is kept for one of the contexts, where nothing has a mark. Rank 0 is no element, so that its mark says nothing.
-fn mark_each(request: &Request, p: u16, marks: &mut [bool; 4097])
+fn mark_each(request: &Request, p: u16, marks: &mut RankMarks)
     requires { (1 ≤ p) × Marks request.now.tree.n (λ j. false) marks.old }
     ensures { Marks request.now.tree.n (in_answer (axis_number request.now.axis) request.now.tree.n (entries_of width request.now.tree.sig.now).fa (entries_of width request.now.tree.sig.now).name request.now.name p request.now.contexts.now) marks.new }
 {
@@ -56,7 +56,8 @@ fn mark_each(request: &Request, p: u16, marks: &mut [bool; 4097])
     }
 }
 
-// What an axis call with a position answers and leaves.
+// What an axis call with a position answers and leaves. Each contract from here down to the searches asks `1 ≤ p` for itself: p is a number of C, of which 0
+// stands for no position, and `axis` alone shows that it is not 0. The marks are a fixed array: the library has no heap.
 fn axis_with_position(
     sig: &[u16],
     contexts: &[u16],

@@ -1,11 +1,12 @@
 -- Which case of an axis call's answer holds.
 --   axis_small        no number of an axis is over 10
+--   as_numbered, as_judged   what is equal to the axis by its number, and to the axis that is judged, has the number
 --   fine_…            which arguments are not refused
 --   within_…, room_…  which case of an answer holds
 --   judged_left, refused_so, judged_leaves   what is left where the arguments are fine, and where one is refused
 --   leaves_as, refused_leaves   what an equal answer leaves; what a refusal leaves
 --   short_leaves, fits_leaves   what is left where the marked ranks are too many for the room, and where they fit
-use Rattle.std.specs.Prelude.{Ok, Err}
+use Rattle.std.specs.Prelude.{Ok, Err, Result}
 use Prim.Native.Nat.{ℕ, ◌≤◌, ◌<◌}
 use native.Mathlib.Omega.{arith}
 use mathlib.Core.Path.{◌≡◌, refl, ap, ◌∙◌, sym, subst}
@@ -28,7 +29,7 @@ use Rattle.terms.specs.declared.Fault.{Fault}
 use Rattle.terms.specs.Faults.{number_of, refusal_at}
 use Rattle.checking.specs.Whole.{WholePromise}
 use Rattle.blocks.proofs.Calls.{after_accepted}
-use Rattle.marks.specs.Axis.{axis_number, arguments_fine, axis_within, axis_answer, answer_in}
+use Rattle.marks.specs.Axis.{axis_number, arguments_fine, axis_within, axis_answer, answer_in, axis_by_number, Numbered, numbered_so, fine_by_number, JudgedFine, judged_so}
 use Rattle.marks.specs.Requests.{Judged, Refuses}
 
 -- ---- arguments
@@ -47,7 +48,19 @@ axis_small Axis.Preceding = lit≤ tt
 axis_small Axis.FollowingSibling = lit≤ tt
 axis_small Axis.PrecedingSibling = lit≤ tt
 
+pub as_numbered : (k : ℕ) (r : Result Axis Fault) → r ≡ axis_by_number k → Numbered k r
+as_numbered k r q = rw q (numbered_so k)
+
+pub as_judged : (k n : ℕ) (contexts : List ℕ) (r : Result Axis Fault) → r ≡ fine_by_number k n contexts → JudgedFine k n contexts r
+as_judged k n contexts r q = rw q (judged_so k n contexts)
+
 module _ (axis n : ℕ) (contexts : List ℕ) where
+  pub fine_left : arguments_fine axis n contexts ≡ false → fine_by_number axis n contexts ≡ Err Fault.BadArgument
+  fine_left h = simp h
+
+  pub fine_right : arguments_fine axis n contexts ≡ true → fine_by_number axis n contexts ≡ axis_by_number axis
+  fine_right h = simp h
+
   pub fine_high : 10 < axis → arguments_fine axis n contexts ≡ false
   unfolding arguments_fine
   fine_high h = simp (lt-leb _ _ h)

@@ -5,7 +5,7 @@
 --   lesser_…, min_is      which number is the lesser
 --   Done                  the marks where some of the ranks are done
 --   upward_…, downward_…  none, one more, all, from the first rank up and from the last one down
-use Prim.Native.Nat.{ℕ, ◌+◌, ◌-◌, ◌≤◌, ◌<◌, min}
+use Prim.Native.Nat.{ℕ, ◌+◌, ◌≤◌, ◌<◌, min}
 use mathlib.Core.Path.{◌≡◌, refl, ap, ◌∙◌, sym}
 use mathlib.Core.Logic.{⊎_elim}
 use mathlib.Core.List.{List}

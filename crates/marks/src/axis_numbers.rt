@@ -1,5 +1,6 @@
 // The eleven axes and their numbers.
-ghost use Rattle.marks.specs.Axis.{Numbered};
+ghost use Rattle.std.specs.Prelude.{◌≡◌};
+ghost use Rattle.marks.specs.Axis.{axis_by_number};
 
 use terms::Fault;
 
@@ -22,7 +23,7 @@ pub enum Axis {
 impl TryFrom<u16> for Axis {
     type Error = Fault;
 
-    ghost try_from_gives = { Numbered };
+    ghost try_from_gives = { λ number axis. axis ≡ axis_by_number number };
 
     // The axis with this number.
     fn try_from(number: u16) -> Result<Axis, Fault> {

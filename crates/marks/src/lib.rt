@@ -10,13 +10,16 @@ ghost use Rattle.xpath.specs.Select.{up_to, rises, within};
 ghost use Rattle.xpath.specs.SelectLaws.{front};
 ghost use Rattle.trees.specs.Signature.{entries_of, width};
 ghost use Rattle.terms.specs.Room.{room_for, Leaves};
-ghost use Rattle.marks.specs.Axis.{JudgedFine};
+ghost use Rattle.marks.specs.Axis.{fine_by_number};
 ghost use Rattle.marks.specs.Marks.{marked, numbered, lesser};
 
 pub use axis_numbers::Axis;
 use entries::{is_passing, name};
 pub use request::Request;
 use terms::{Fault, PreRank, Refusal};
+
+// A mark for each rank from 1 to 4,096, in the place of that number. It is a fixed array, since the library has no heap.
+pub type RankMarks = [bool; 4097];
 
 // Whether the contexts are ranks of n entries, strictly ascending.
 fn is_ascending(n: u16, contexts: &[u16]) -> bool
@@ -32,9 +35,10 @@ fn is_ascending(n: u16, contexts: &[u16]) -> bool
     true
 }
 
-// The axis with this number, where an axis call has no argument that is refused.
+// The axis with this number, where an axis call has no argument that is refused. The axis is a number, since C hands in any, and the 8 for one over 10 has its
+// place in the order of refusals.
 pub fn fine_axis(n: u16, contexts: &[u16], axis: u16) -> Result<Axis, Fault>
-    ensures { JudgedFine axis n contexts.now result }
+    ensures { result ≡ fine_by_number axis n contexts.now }
 {
     let axis = Axis::try_from(axis)?;
     if !is_ascending(n, contexts) {
@@ -43,8 +47,9 @@ pub fn fine_axis(n: u16, contexts: &[u16], axis: u16) -> Result<Axis, Fault>
     Ok(axis)
 }
 
-// How many of the ranks 1 to n have a mark.
-fn count_marks(n: u16, marks: &[bool; 4097]) -> usize
+// How many of the ranks 1 to n have a mark. The loop is over `1..n + 1`, since the last turn of one over `1..=n` is a goal of its own, which was tried and did
+// not close.
+fn count_marks(n: u16, marks: &RankMarks) -> usize
     requires { n ≤ 4096 }
     ensures { result ≡ length (up_to n (marked marks.now)) }
 {
@@ -56,7 +61,7 @@ fn count_marks(n: u16, marks: &[bool; 4097]) -> usize
 }
 
 // Writes the ranks that have a mark to the front of the room.
-fn write_marks(n: u16, marks: &[bool; 4097], room: &mut [u16])
+fn write_marks(n: u16, marks: &RankMarks, room: &mut [u16])
     requires { (n ≤ 4096) × (length (up_to n (marked marks.now)) ≤ length room.old) }
     ensures { room.new ≡ front (up_to n (marked marks.now)) room.old }
 {
@@ -77,7 +82,7 @@ pub fn is_named(sig: &[u16], test: u16, rank: PreRank) -> bool
 }
 
 // Writes those of the ranks 1 to n, and to 4,096 at most, that have a mark to the front of the room, or refuses a room that is too small.
-pub fn write_ranks(n: u16, marks: &[bool; 4097], room: &mut [u16]) -> Result<usize, Refusal>
+pub fn write_ranks(n: u16, marks: &RankMarks, room: &mut [u16]) -> Result<usize, Refusal>
     ensures { Leaves (room_for room.old (up_to (lesser n 4096) (marked marks.now))) result room.new }
 {
     let last = n.min(4096);
@@ -89,7 +94,7 @@ pub fn write_ranks(n: u16, marks: &[bool; 4097], room: &mut [u16]) -> Result<usi
     Ok(count)
 }
 
-// The same for a caller whose marks are numbers: 1 is a mark, and every other number is none.
+// The same for a caller whose marks are numbers: 1 is a mark, and every other number is none. It stays, since its promise is of numbers (docs/PROMISES).
 pub fn write_marked(n: u16, marks: &[u8; 4097], room: &mut [u16]) -> Result<usize, Refusal>
     ensures { Leaves (room_for room.old (up_to (lesser n 4096) (numbered marks.now))) result room.new }
 {

@@ -19,7 +19,8 @@ pub struct Request<'a> {
 impl<'a> Request<'a> {
     ghost use Rattle.marks.specs.Requests.{JudgePromise};
 
-    // The request, where neither the whole check nor an argument refuses the call.
+    // The request, where neither the whole check nor an argument refuses the call. The axis is a number, as in `fine_axis`: its 8 comes behind
+    // what the check refuses.
     pub fn judge(
         sig: &'a [u16],
         contexts: &'a [u16],

@@ -7,6 +7,7 @@ ghost use Rattle.one_pass.specs.Reached.{reached};
 
 use blocks::Accepted;
 use entries::first_past;
+use marks::RankMarks;
 
 // The greater of two numbers where the mark is set, else the first.
 fn raised(mark: bool, x: u16, y: u16) -> u16
@@ -22,8 +23,9 @@ fn lowered(mark: bool, x: u16, y: u16) -> u16
     if mark { x.min(y) } else { x }
 }
 
-// Marks what lies below an element: the greatest ff of the elements before j is above j.
-pub fn mark_below(tree: &Accepted, from: &[bool; 4097], found: &mut [bool; 4097])
+// Marks what lies below an element: the greatest ff of the elements before j is above j. The loops are over
+// `1..n + 1`, since the last turn of one over `1..=n` is a goal of its own, which was tried and did not close.
+pub fn mark_below(tree: &Accepted, from: &RankMarks, found: &mut RankMarks)
     ensures { Marked tree.now.n (reached 2 tree.now.sig.now tree.now.n from.now) found.old found.new }
 {
     let sig = tree.sig;
@@ -36,7 +38,7 @@ pub fn mark_below(tree: &Accepted, from: &[bool; 4097], found: &mut [bool; 4097]
 }
 
 // Marks what follows an element: the least ff of the elements before j is at most j.
-pub fn mark_following(tree: &Accepted, from: &[bool; 4097], found: &mut [bool; 4097])
+pub fn mark_following(tree: &Accepted, from: &RankMarks, found: &mut RankMarks)
     ensures { Marked tree.now.n (reached 7 tree.now.sig.now tree.now.n from.now) found.old found.new }
 {
     let sig = tree.sig;
@@ -50,7 +52,7 @@ pub fn mark_following(tree: &Accepted, from: &[bool; 4097], found: &mut [bool; 4
 }
 
 // Marks what has an element below it: the next element after j lies before the ff of j.
-pub fn mark_above(tree: &Accepted, from: &[bool; 4097], found: &mut [bool; 4097])
+pub fn mark_above(tree: &Accepted, from: &RankMarks, found: &mut RankMarks)
     ensures { Marked tree.now.n (reached 5 tree.now.sig.now tree.now.n from.now) found.old found.new }
 {
     let sig = tree.sig;
@@ -63,7 +65,7 @@ pub fn mark_above(tree: &Accepted, from: &[bool; 4097], found: &mut [bool; 4097]
 }
 
 // Marks what an element follows: the last element is at or past the ff of j.
-pub fn mark_preceding(tree: &Accepted, from: &[bool; 4097], found: &mut [bool; 4097])
+pub fn mark_preceding(tree: &Accepted, from: &RankMarks, found: &mut RankMarks)
     ensures { Marked tree.now.n (reached 8 tree.now.sig.now tree.now.n from.now) found.old found.new }
 {
     let sig = tree.sig;

@@ -5,9 +5,10 @@ ghost use Rattle.one_pass.specs.Reached.{reached};
 
 use blocks::Accepted;
 use entries::parent;
+use marks::RankMarks;
 
 // Whether there is a parent and it has a mark.
-fn is_marked_above(marks: &[bool; 4097], up: u16) -> bool
+fn is_marked_above(marks: &RankMarks, up: u16) -> bool
     requires { up ≤ 4096 }
     ensures { result ≡ (not (eqb up 0) && marked marks.now up) }
 {
@@ -15,7 +16,7 @@ fn is_marked_above(marks: &[bool; 4097], up: u16) -> bool
 }
 
 // Marks the children of an element: the parent of j has a mark.
-pub fn mark_children(tree: &Accepted, from: &[bool; 4097], found: &mut [bool; 4097])
+pub fn mark_children(tree: &Accepted, from: &RankMarks, found: &mut RankMarks)
     ensures { Marked tree.now.n (reached 1 tree.now.sig.now tree.now.n from.now) found.old found.new }
 {
     let sig = tree.sig;
@@ -26,7 +27,7 @@ pub fn mark_children(tree: &Accepted, from: &[bool; 4097], found: &mut [bool; 40
 }
 
 // Marks the parents of the elements, where nothing has a mark.
-pub fn mark_parents(tree: &Accepted, from: &[bool; 4097], found: &mut [bool; 4097])
+pub fn mark_parents(tree: &Accepted, from: &RankMarks, found: &mut RankMarks)
     requires { Marks tree.now.n (λ j. false) found.old }
     ensures { Marks tree.now.n (reached 4 tree.now.sig.now tree.now.n from.now) found.new }
 {
@@ -38,7 +39,7 @@ pub fn mark_parents(tree: &Accepted, from: &[bool; 4097], found: &mut [bool; 409
 }
 
 // Marks the siblings that come after an element: an element seen before j handed its mark to their parent.
-pub fn mark_later(tree: &Accepted, from: &[bool; 4097], found: &mut [bool; 4097])
+pub fn mark_later(tree: &Accepted, from: &RankMarks, found: &mut RankMarks)
     ensures { Marked tree.now.n (reached 9 tree.now.sig.now tree.now.n from.now) found.old found.new }
 {
     let sig = tree.sig;
@@ -51,8 +52,9 @@ pub fn mark_later(tree: &Accepted, from: &[bool; 4097], found: &mut [bool; 4097]
     }
 }
 
-// Marks the siblings that come before an element: the same from the last entry down.
-pub fn mark_earlier(tree: &Accepted, from: &[bool; 4097], found: &mut [bool; 4097])
+// Marks the siblings that come before an element: the same from the last entry down. The two stay two: one loop for both would go over
+// an iterator that its caller picks, and its contract would have to say what that gives.
+pub fn mark_earlier(tree: &Accepted, from: &RankMarks, found: &mut RankMarks)
     ensures { Marked tree.now.n (reached 10 tree.now.sig.now tree.now.n from.now) found.old found.new }
 {
     let sig = tree.sig;

@@ -1,5 +1,6 @@
 // Layer 5, one_pass: an axis of many contexts with no position, in a fixed number of passes over the entries. What a pass carries along is told in
-// `xpath/specs/Spread`.
+// `xpath/specs/Spread`. Each pass takes the tree, the marks that it starts from and those that it sets as three: of a struct that lends them each clause would
+// speak by two steps, as `pass.old.found.now`, which is no plainer.
 #![tactic(auto)]
 
 ghost use Rattle.std.specs.Prelude.{false, ◌&&◌};
@@ -17,11 +18,11 @@ mod handed;
 use blocks::Accepted;
 use carried::{mark_above, mark_below, mark_following, mark_preceding};
 use handed::{mark_children, mark_earlier, mark_later, mark_parents};
-use marks::{Axis, Request, is_named, write_ranks};
+use marks::{Axis, RankMarks, Request, is_named, write_ranks};
 use terms::{PreRank, Refusal};
 
 // Marks the contexts, where nothing has a mark.
-fn mark_contexts(request: &Request, from: &mut [bool; 4097])
+fn mark_contexts(request: &Request, from: &mut RankMarks)
     requires { Marks request.now.tree.n (λ j. false) from.old }
     ensures { Marks request.now.tree.n (is_context request.now.contexts.now) from.new }
 {
@@ -31,7 +32,7 @@ fn mark_contexts(request: &Request, from: &mut [bool; 4097])
 }
 
 // Marks the elements of the first marks, beside the marks that are there.
-fn mark_same(tree: &Accepted, from: &[bool; 4097], found: &mut [bool; 4097])
+fn mark_same(tree: &Accepted, from: &RankMarks, found: &mut RankMarks)
     ensures { Marked tree.now.n (marked from.now) found.old found.new }
 {
     for j in 1..tree.n as usize + 1 {
@@ -40,7 +41,7 @@ fn mark_same(tree: &Accepted, from: &[bool; 4097], found: &mut [bool; 4097])
 }
 
 // Marks what is on the axis of one of the elements, where nothing has a mark.
-fn mark_axis(request: &Request, from: &[bool; 4097], found: &mut [bool; 4097])
+fn mark_axis(request: &Request, from: &RankMarks, found: &mut RankMarks)
     requires { Marks request.now.tree.n (λ j. false) found.old }
     ensures { Marks request.now.tree.n (reached (axis_number request.now.axis) request.now.tree.sig.now request.now.tree.n from.now) found.new }
 {
@@ -67,7 +68,7 @@ fn mark_axis(request: &Request, from: &[bool; 4097], found: &mut [bool; 4097])
 }
 
 // Keeps the marks of those elements whose names pass the test.
-fn keep_named(request: &Request, found: &mut [bool; 4097])
+fn keep_named(request: &Request, found: &mut RankMarks)
     ensures { Marks request.now.tree.n (λ j. marked found.old j && passes request.now.name ((entries_of width request.now.tree.sig.now).name j)) found.new }
 {
     let sig = request.tree.sig;
@@ -78,8 +79,8 @@ fn keep_named(request: &Request, found: &mut [bool; 4097])
     }
 }
 
-// Marks the answer, where nothing has a mark.
-fn mark_union(request: &Request, found: &mut [bool; 4097])
+// Marks the answer, where nothing has a mark. The marks that the passes start from are a fixed array: the library has no heap.
+fn mark_union(request: &Request, found: &mut RankMarks)
     requires { Marks request.now.tree.n (λ j. false) found.old }
     ensures { Marks request.now.tree.n (in_answer (axis_number request.now.axis) request.now.tree.n (entries_of width request.now.tree.sig.now).fa (entries_of width request.now.tree.sig.now).name request.now.name 0 request.now.contexts.now) found.new }
 {

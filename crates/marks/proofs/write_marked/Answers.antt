@@ -1,5 +1,5 @@
 -- A rank past the last has neither a mark nor a number, so that marks and numbers agree at every rank.
-use Prim.Native.Nat.{ℕ, ◌<◌}
+use Prim.Native.Nat.{ℕ}
 use mathlib.Core.Path.{◌≡◌, ap, sym, ◌∙◌}
 use mathlib.Core.Bool.{false}
 use lib.ListN.{get_or, length-set, get_or-eq_default}
@@ -9,7 +9,7 @@ use native.Mathlib.Omega.{arith}
 use native.Mathlib.Decide.{dec_le}
 use borrow.Author.Count.{below_more}
 use Rattle.xpath.specs.Select.{up_to}
-use Rattle.terms.specs.Room.{Left, Leaves, room_for}
+use Rattle.terms.specs.Room.{Left, room_for}
 use Rattle.marks.specs.Marks.{marked, numbered, lesser}
 use Rattle.marks.proofs.write_marked.Goals as goal
 

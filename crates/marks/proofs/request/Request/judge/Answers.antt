@@ -2,7 +2,7 @@
 use Rattle.std.proofs.Common.{refl}
 use Rattle.std.proofs.lemmas.Result.{err_from_is_err_and}
 use Rattle.blocks.proofs.Calls.{after_refused}
-use Rattle.marks.proofs.Calls.{fine_inverse, judged_left, refused_so}
+use Rattle.marks.proofs.Calls.{as_judged, fine_inverse, judged_left, refused_so}
 use Rattle.marks.proofs.request.Request.judge.Goals as goal
 
 pub returns-in_err-tree : goal.returns-in_err-tree
@@ -14,18 +14,20 @@ pub returns-in_err-axis : goal.returns-in_err-axis
 returns-in_err-axis c =
     let p = err_from_is_err_and c.from_residual-in_err-axis.result c.from_residual-in_err-axis.ensures.1 in
     let t = c.in_ok-tree.tree in
-    rw (p.1, p.2) (refused_so t.sig.now c.args.sig.now t.n c.args.contexts.now c.args.axis c.args.name c.in_ok-tree.ensures t.accepted t.counted _ c.in_err-axis.ensures.0 c.in_err-axis.ensures.1)
+    let bad = as_judged _ _ _ _ c.in_err-axis.ensures in
+    rw (p.1, p.2) (refused_so t.sig.now c.args.sig.now t.n c.args.contexts.now c.args.axis c.args.name c.in_ok-tree.ensures t.accepted t.counted _ bad.0 bad.1)
 
 pub invariant_of-result : goal.invariant_of-result
-invariant_of-result c = record { ranks = (fine_inverse _ _ _ c.in_ok-axis.ensures.1).ranks }
+invariant_of-result c = record { ranks = (fine_inverse _ _ _ (as_judged _ _ _ _ c.in_ok-axis.ensures).1).ranks }
 
 pub returns : goal.returns
 returns c =
     let t = c.in_ok-tree.tree in
+    let fine = as_judged _ _ _ _ c.in_ok-axis.ensures in
     record {
       signature = c.in_ok-tree.ensures;
       ranks = refl;
-      numbered = c.in_ok-axis.ensures.0;
+      numbered = fine.0;
       named = refl;
-      left = judged_left t.sig.now c.args.sig.now t.n c.args.contexts.now c.args.axis c.args.name c.in_ok-tree.ensures t.accepted t.counted c.in_ok-axis.ensures.1;
+      left = judged_left t.sig.now c.args.sig.now t.n c.args.contexts.now c.args.axis c.args.name c.in_ok-tree.ensures t.accepted t.counted fine.1;
     }
