@@ -32,8 +32,8 @@ pub fn find_row(request: &Request, p: u16, up: u16, after: u16, last: u16) -> u1
 }
 
 // The rank of the p-th element that precedes the context c and passes the name test; or 0. What comes before c and is none of its ancestors ends before it.
-// It answers 0 and no `Option`, as `find_named` does: `Only` says of 0 that there is none. The loop is over `1..c + 1`, since the last turn of one over `1..=c` is
-// a goal of its own, which was tried and did not close.
+// It answers 0 and no `Option`, as `find_named` does: `Only` says of 0 that there is none. The loop is over `1..c + 1`, since the last turn of one over `1..=c`
+// is a goal of its own, which was tried and did not close.
 pub fn find_before(request: &Request, p: u16, c: u16) -> u16
     requires { (1 ≤ p) × (1 ≤ c) × (c ≤ request.now.tree.n) }
     ensures { Kept 8 request.now.tree.sig.now request.now.tree.n request.now.name p c result }

@@ -98,9 +98,6 @@ pub fn write_ranks(n: u16, marks: &RankMarks, room: &mut [u16]) -> Result<usize,
 pub fn write_marked(n: u16, marks: &[u8; 4097], room: &mut [u16]) -> Result<usize, Refusal>
     ensures { Leaves (room_for room.old (up_to (lesser n 4096) (numbered marks.now))) result room.new }
 {
-    let mut are_set = [false; 4097];
-    for j in 0..4097 {
-        are_set[j] = marks[j] == 1;
-    }
+    let are_set = marks.map(|mark| mark == 1);
     write_ranks(n, &are_set, room)
 }
