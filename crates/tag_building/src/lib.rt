@@ -19,7 +19,8 @@ pub struct Judged {
     pub verdict: Result<(), Fault>,
 }
 
-// The entry of an element that opens after size others.
+// The entry of an element that opens after size others. The numbers built are lent to it and to `close_entry`, and no struct holds them: the loop would hold
+// that over its own reads.
 fn open_entry(own: &mut [u16], size: u16, name: u16, top: u16)
     requires { 4 * size + 4 ≤ length own.old }
     ensures { own.new ≡ open_room own.old size name top }

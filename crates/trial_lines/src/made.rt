@@ -12,7 +12,7 @@ const TEN: [u16; 40] = [
 // Document 01's Five.
 const FIVE: [u16; 20] = [1, 5, 6, 0, 1, 1, 3, 1, 1, 4, 6, 1, 1, 2, 5, 3, 1, 3, 6, 3];
 
-// Entry i of a chain of n elements.
+// Entry i of a chain of n elements. The bounds of i and n stand at each such function, since each is handed on as it is.
 fn chain(n: u16, i: u16) -> [u16; 4]
     requires { (1 ≤ i) × (i ≤ n) × (n ≤ 20000) }
 {
