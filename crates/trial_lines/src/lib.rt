@@ -11,4 +11,4 @@ mod shown;
 pub use cases::{Out, read_cases, try_cases};
 pub use fields::{Case, UnknownWord, front, great, kind_of, numbers_into};
 pub use made::tree_into;
-pub use shown::{Row, came_to, length_told, room_left, stopped, told};
+pub use shown::{Row, came_to, room_left, stopped, told, told_by};

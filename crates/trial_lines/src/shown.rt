@@ -17,7 +17,7 @@ impl<T: fmt::Display> fmt::Display for Row<'_, T> {
 }
 
 // What a call answers: what `shows` prints of it, or the refusal's number and entry.
-pub fn told<W: Write, T, F: FnOnce(&mut W, T) -> io::Result<()>>(
+pub fn told_by<W: Write, T, F: FnOnce(&mut W, T) -> io::Result<()>>(
     out: &mut W,
     answer: Result<T, Refusal>,
     shows: F,
@@ -31,8 +31,8 @@ pub fn told<W: Write, T, F: FnOnce(&mut W, T) -> io::Result<()>>(
 }
 
 // What a call that writes into a room answers.
-pub fn length_told<W: Write>(out: &mut W, answer: Result<usize, Refusal>) -> io::Result<()> {
-    told(out, answer, |out, len| write!(out, " length {len}"))
+pub fn told<W: Write>(out: &mut W, answer: Result<usize, Refusal>) -> io::Result<()> {
+    told_by(out, answer, |out, len| write!(out, " length {len}"))
 }
 
 // What stopped a turn: 0 an answer, 1 the end, 2 the budget, 3 a refusal, with its number and entry, or 0 and 0.

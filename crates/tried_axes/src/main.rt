@@ -13,7 +13,7 @@ use std::io;
 use std::io::Write;
 use told_entries::entries_told;
 use trial_lines::{
-    Case, Row, UnknownWord, front, length_told, numbers_into, room_left, told, tree_into, try_cases,
+    Case, Row, UnknownWord, front, numbers_into, room_left, told, told_by, tree_into, try_cases,
 };
 
 // What a line's first word has tried.
@@ -62,7 +62,7 @@ impl Step {
             self.position,
             &mut room,
         );
-        told(out, answer, |out, len| {
+        told_by(out, answer, |out, len| {
             write!(out, "{}", Row(front(&room, len)))
         })?;
         out.write_all(b" /")
@@ -118,7 +118,7 @@ fn ends<W: Write>(
     let mut room = [0; 4096];
     let answer = axis(sig, contexts, number, 0, position, &mut room);
     write!(out, " {number}")?;
-    told(out, answer, |out, len| list_ends(out, front(&room, len)))?;
+    told_by(out, answer, |out, len| list_ends(out, front(&room, len)))?;
     out.write_all(b" /")
 }
 
@@ -148,7 +148,7 @@ fn one_call(
     let Some(lent) = room.get_mut(..width) else {
         return Ok(());
     };
-    length_told(out, axis(sig, contexts, number, 0, position, lent))?;
+    told(out, axis(sig, contexts, number, 0, position, lent))?;
     room_left(out, lent)
 }
 

@@ -3,13 +3,13 @@ use blocks::{block, block_place, level};
 use std::io;
 use std::io::Write;
 use terms::PreRank;
-use trial_lines::told;
+use trial_lines::told_by;
 
 // The level, the place and the length of the block of one entry.
 fn entry_told<W: Write>(out: &mut W, sig: &[u16], i: PreRank) -> io::Result<()> {
     write!(out, " {}", i.0)?;
-    told(out, level(sig, i), |out, level| write!(out, " {level}"))?;
-    told(out, block_place(sig, i), |out, (first, count)| {
+    told_by(out, level(sig, i), |out, level| write!(out, " {level}"))?;
+    told_by(out, block_place(sig, i), |out, (first, count)| {
         write!(out, " {first} {count}")
     })?;
     write!(out, " {} /", block(sig, i).len())

@@ -8,7 +8,7 @@ use checking::{CheckState, check_whole};
 use std::io;
 use std::io::Write;
 use terms::{Kind, PostRank, PreRank, Refusal, Turn};
-use trial_lines::{Case, UnknownWord, came_to, kind_of, told, tree_into, try_cases};
+use trial_lines::{Case, UnknownWord, came_to, kind_of, told_by, tree_into, try_cases};
 
 // What a line's first word has tried.
 #[derive(Clone, Copy)]
@@ -41,7 +41,7 @@ fn shown(out: &mut impl Write, label: &[u8], turn: Turn<CheckState>) -> io::Resu
 
 fn judged(out: &mut impl Write, label: &[u8], verdict: Result<(), Refusal>) -> io::Result<()> {
     out.write_all(label)?;
-    told(out, verdict, |out, _| out.write_all(b" accepted"))?;
+    told_by(out, verdict, |out, _| out.write_all(b" accepted"))?;
     out.write_all(b"\n")
 }
 

@@ -17,7 +17,7 @@ use starting::prepare_start;
 use std::io;
 use std::io::Write;
 use terms::PreRank;
-use trial_lines::{Case, Row, UnknownWord, great, numbers_into, told, tree_into, try_cases};
+use trial_lines::{Case, Row, UnknownWord, great, numbers_into, told_by, tree_into, try_cases};
 use walk_ranges::Phase;
 use walking::Walk;
 use whole::{Budgets, Trees, WholeWalk};
@@ -96,7 +96,7 @@ fn tabled(out: &mut impl Write, table: &[u16]) -> io::Result<()> {
 
 // A start call, with what it leaves.
 fn start<W: Write>(out: &mut W, table: &mut [u16], n: u64) -> io::Result<()> {
-    told(out, prepare_start(n, table), |out, state| {
+    told_by(out, prepare_start(n, table), |out, state| {
         write!(out, " fresh {}", state.next.0)
     })?;
     tabled(out, table)

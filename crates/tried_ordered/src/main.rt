@@ -8,7 +8,7 @@ use ordered::ordered_next;
 use std::io;
 use std::io::Write;
 use trial_lines::{
-    Case, Row, UnknownWord, front, length_told, numbers_into, room_left, tree_into, try_cases,
+    Case, Row, UnknownWord, front, numbers_into, room_left, told, tree_into, try_cases,
 };
 
 // What a line's first word has tried.
@@ -84,7 +84,7 @@ impl Trees<'_> {
         let Some(lent) = room.get_mut(..width) else {
             return Ok(());
         };
-        length_told(
+        told(
             out,
             ordered_next(self.sig, self.twig, front(&tuple, len), lent),
         )?;

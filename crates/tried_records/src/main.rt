@@ -18,7 +18,7 @@ use tag_lists::{read_tree, tags_to_signature};
 use tag_writing::signature_to_tags;
 use terms::Kind;
 use trial_lines::{
-    Case, Row, UnknownWord, kind_of, length_told, room_left, told, tree_into, try_cases,
+    Case, Row, UnknownWord, kind_of, room_left, told, told_by, tree_into, try_cases,
 };
 
 // What a line's first word has tried.
@@ -91,11 +91,11 @@ impl Way {
     // Reads bytes into a room, and prints what came of it.
     fn read<W: Write>(self, out: &mut W, bytes: &[u8], room: &mut [u16]) -> io::Result<()> {
         match self.form {
-            Form::Records => length_told(out, read_records(bytes, room))?,
-            Form::Tags(kind) => length_told(out, tags_to_signature(kind, bytes, room))?,
+            Form::Records => told(out, read_records(bytes, room))?,
+            Form::Tags(kind) => told(out, tags_to_signature(kind, bytes, room))?,
             Form::One => {
                 let answer = read_tree(Kind::Data, bytes, self.place(), room);
-                told(
+                told_by(
                     out,
                     answer,
                     |out, (len, end)| write!(out, " length {len} end {end}"),
@@ -112,7 +112,7 @@ impl Way {
             Form::One => signature_to_tags(Kind::Data, sig, room),
             Form::Tags(kind) => signature_to_tags(kind, sig, room),
         };
-        length_told(out, answer)?;
+        told(out, answer)?;
         if self.from == 0 {
             write!(out, " room{}", Row(room))?;
         }
