@@ -30,6 +30,7 @@ fn find_kept(request: &Request, p: u16, c: u16) -> u16
     let before = c - 1;
     let up = parent(sig, c);
     let last = first_past(sig, c) - 1;
+    // A match over the axes and no table of closures, which is longer: each arm takes other arguments.
     match request.axis {
         Axis::Itself => find_named(sig, name, p, before, c),
         Axis::Child => find_row(request, p, c, c, last),

@@ -23,6 +23,7 @@ impl<'a> Accepted<'a> {
         ensures { MatchResult result (λ tree. tree.sig.now ≡ sig.now) (λ refused. WholePromise Kind.Data sig.now (Err refused)) }
     {
         check_whole(Kind::Data, sig)?;
+        // A cast: the length is known to be small, and the library has no `From` from usize to u16.
         let n = (sig.len() / 4) as u16;
         Ok(Accepted { sig, n })
     }

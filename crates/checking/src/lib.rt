@@ -47,6 +47,7 @@ impl CheckState {
         if let Err(fault) = test_length(kind, sig.len()) {
             return Turn::refused(self, fault.into());
         }
+        // A cast: the length is known to be small, and the library has no `From` from usize to u16.
         let n = (sig.len() / 4) as u16;
         if !self.is_in_range(n) {
             return Turn::refused(self, Fault::BadState.into());

@@ -15,6 +15,7 @@ fn number_or_zero(sig: &[u16], at: usize) -> u16
 }
 
 // Number k of entry i for every caller: 0 past the end of the signature, and rank 0 reads as rank 1, so that every number may be handed in.
+// k is no enum: the clause speaks of every k.
 pub fn entry_number(sig: &[u16], i: PreRank, k: u16) -> u16
     ensures { result ≡ cell width sig.now i.0 k }
 {
@@ -55,6 +56,7 @@ pub fn is_passing(wanted: u16, name: u16) -> bool
 }
 
 // Number i of a list that is counted from 1, or 0 outside it.
+// It answers 0 and no `Option`, as its clause says.
 pub fn listed(list: &[u16], i: u16) -> u16
     ensures { result ≡ get_or (0 ∷ list.now) i 0 }
 {

@@ -1,4 +1,5 @@
 // Layer 8, kiosk: the C interface. It gives the calls on bare numbers the names that C knows them by.
+// Kinds and axes are numbers, and states and out arrays of a fixed length: C hands them in so.
 #![tactic(auto)]
 
 ghost use Rattle.record_calls.specs.Records.{ReadNumbers, WriteNumbers, TagsNumbers, BackNumbers};

@@ -22,6 +22,7 @@ use terms::{Fault, PreRank, Refusal};
 pub type RankMarks = [bool; 4097];
 
 // Whether the contexts are ranks of n entries, strictly ascending.
+// No `all`: the rank before is carried along.
 fn is_ascending(n: u16, contexts: &[u16]) -> bool
     ensures { result ≡ (within n contexts.now && rises contexts.now) }
 {
@@ -61,6 +62,7 @@ fn count_marks(n: u16, marks: &RankMarks) -> usize
 }
 
 // Writes the ranks that have a mark to the front of the room.
+// The place is counted by hand, and comes to what `count_marks` counts.
 fn write_marks(n: u16, marks: &RankMarks, room: &mut [u16])
     requires { (n ≤ 4096) × (length (up_to n (marked marks.now)) ≤ length room.old) }
     ensures { room.new ≡ front (up_to n (marked marks.now)) room.old }

@@ -1,6 +1,6 @@
 // Layer 5, one_pass: an axis of many contexts with no position, in a fixed number of passes over the entries. What a pass carries along is told in
 // `xpath/specs/Spread`. Each pass takes the tree, the marks that it starts from and those that it sets as three: of a struct that lends them each clause would
-// speak by two steps, as `pass.old.found.now`, which is no plainer.
+// speak by two steps, as `pass.old.found.now`, which is no plainer. Why loops go over `1..n + 1` stands in `carried`, and indices widen by `as` (docs/DECISIONS).
 #![tactic(auto)]
 
 ghost use Rattle.std.specs.Prelude.{false, ◌&&◌};
@@ -46,6 +46,7 @@ fn mark_axis(request: &Request, from: &RankMarks, found: &mut RankMarks)
     ensures { Marks request.now.tree.n (reached (axis_number request.now.axis) request.now.tree.sig.now request.now.tree.n from.now) found.new }
 {
     let tree = &request.tree;
+    // A match over the axes and no table of closures, which is longer: two of the arms are two passes.
     match request.axis {
         Axis::Itself => mark_same(tree, from, found),
         Axis::Child => mark_children(tree, from, found),
@@ -91,6 +92,7 @@ fn mark_union(request: &Request, found: &mut RankMarks)
 }
 
 // The elements on an axis of the contexts, with no position. The promise is that of `axes::axis` with position 0.
+// The axis is a number, as in `axes::axis`: the 8 for one over 10 has its place in the order of refusals.
 pub fn axis_without_position(
     sig: &[u16],
     contexts: &[u16],

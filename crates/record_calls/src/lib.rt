@@ -1,4 +1,5 @@
 // Layer 6, record_calls: the calls on signature records and tag lists, on bare numbers.
+// Kinds and axes are numbers, and states and out arrays of a fixed length: C hands them in so.
 #![tactic(auto)]
 
 ghost use Rattle.record_calls.specs.Records.{ReadNumbers, WriteNumbers, TagsNumbers, BackNumbers};

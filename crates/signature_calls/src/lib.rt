@@ -1,4 +1,5 @@
 // Layer 7, signature_calls: the calls on one signature, on bare numbers: the check, level, block and axes.
+// Kinds and axes are numbers, and states and out arrays of a fixed length: C hands them in so.
 #![tactic(auto)]
 
 ghost use Rattle.signature_calls.specs.Check.{CheckTurnPromise};

@@ -28,6 +28,7 @@ fn is_ending(sig: &[u16], next: u16, top: u16) -> bool
 }
 
 // Writes the tag list of a tree's signature to the front of the room: an element that ends before the next entry closes, else the next entry opens.
+// The place is counted by hand: a tag has two bytes or four.
 fn write_tags(sig: &[u16], count: usize, room: &mut [u8])
     requires { (count ≤ 4096) × (6 * count ≤ length room.old) × ((t : Tree) × (sig.now ≡ signature t) × (size (whole t) ≡ count)) }
     ensures { room.new ≡ front_with (back_bytes sig.now) room.old }

@@ -1,4 +1,4 @@
-// The states that a caller keeps between two turns, as bare numbers.
+// The states that a caller keeps between two turns, as bare numbers: arrays of a fixed length, as C lends them.
 ghost use Rattle.std.specs.Prelude.{◌≡◌, ℕ, List, Bool, false, get_or, length};
 ghost use Rattle.preparing.specs.PrepTurn.{prep_at};
 ghost use Rattle.telling.specs.States.{check_state_of, check_numbers, prepare_numbers, kept_over, TurnSaid};

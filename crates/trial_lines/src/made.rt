@@ -93,6 +93,7 @@ fn list_into<F: Fn(u16) -> u16>(room: &mut [u16], n: u16, number: F) -> usize
 // Writes the tree or list of a letter, as far as it fits, and answers how many numbers it has: T document 01's Ten, F its Five, C a chain, B a root with
 // leaves, S a chain in which each element has a leaf before the next, H a tree of half matches; and O so many ones, R the ranks up to a number.
 fn made_into(room: &mut [u16], letter: u8, n: u16) -> usize {
+    // A match on the letter: what is made is lent to `entries_into` as a function, and a table of these would be handed out.
     match letter {
         b'T' => {
             put(room, &TEN);
@@ -127,6 +128,7 @@ fn named_into(room: &mut [u16], letter: u8, list: &[u8]) -> usize {
 }
 
 // Writes what a field lists, as far as it fits, and hands back what is written: the numbers themselves, or the tree or list that a letter names.
+// Rooms of a fixed size are lent to it: what a line lists is cut at the room's length, so that a `Vec` would be filled to that length first and then lent just so.
 pub fn tree_into<'a>(list: &[u8], room: &'a mut [u16]) -> &'a [u16]
     ensures { length result.now ≤ length room.entry.now }
 {
