@@ -11,11 +11,16 @@ pub fn byte_at(bytes: &[u8], at: usize) -> u8
     bytes.get(at).copied().unwrap_or(0)
 }
 
-// The byte after a place, 0 outside. Every place may be handed in, the greatest one too.
+// The byte after a place, 0 outside. Every place may be handed in, the greatest one too. Where the byte at the place is known to be there, the test of the place
+// costs nothing; a saturating sum would.
 pub fn byte_after(bytes: &[u8], at: usize) -> u8
     ensures { result ≡ get_or bytes.now (at + 1) 0 }
 {
-    byte_at(bytes, at.saturating_add(1))
+    if at < bytes.len() {
+        byte_at(bytes, at + 1)
+    } else {
+        0
+    }
 }
 
 // The number at a place, low byte first.

@@ -14,7 +14,7 @@ ghost use Rattle.marks.specs.Axis.{fine_by_number};
 ghost use Rattle.marks.specs.Marks.{marked, numbered, lesser};
 
 pub use axis_numbers::Axis;
-use entries::{is_passing, name};
+use entries::name;
 pub use request::Request;
 use terms::{Fault, PreRank, Refusal};
 
@@ -76,11 +76,12 @@ fn write_marks(n: u16, marks: &RankMarks, room: &mut [u16])
     }
 }
 
-// Whether the name of an entry passes a name test. Name 0 asks for any name.
+// Whether the name of an entry passes a name test. Name 0 asks for any name, and then none is read: a search of many ranks took three times as long with the read.
+#[tactic(auto, unfolding(trees::specs::Names::passes))]
 pub fn is_named(sig: &[u16], test: u16, rank: PreRank) -> bool
     ensures { result ≡ passes test ((entries_of width sig.now).name rank.0) }
 {
-    is_passing(test, name(sig, rank.0))
+    test == 0 || test == name(sig, rank.0)
 }
 
 // Writes those of the ranks 1 to n, and to 4,096 at most, that have a mark to the front of the room, or refuses a room that is too small.

@@ -1,8 +1,9 @@
 // Layer 3, records: signature records, read into signatures of data trees.
 #![tactic(auto)]
 
-ghost use Rattle.std.specs.Prelude.{◌≡◌, ◌*◌, ◌≤◌, length};
+ghost use Rattle.std.specs.Prelude.{◌≡◌, ◌+◌, ◌*◌, ◌≤◌, length};
 ghost use Rattle.trees.specs.Signature.{width};
+ghost use Rattle.bytes_read.specs.Bytes.{number_at};
 ghost use Rattle.terms.specs.Faults.{tested};
 ghost use Rattle.terms.specs.Room.{front_with};
 ghost use Rattle.records.specs.Records.{record_at, record_fault, records_end, numbers_from, CountPromise, ReadPromise};
@@ -54,6 +55,14 @@ fn count_records(bytes: &[u8]) -> Result<u16, Fault>
     Ok(count)
 }
 
+// The number at a place whose two bytes are there. `number_at` takes every place, and would test again what the count has judged: three times the time.
+fn number_in(bytes: &[u8], at: usize) -> u16
+    requires { at + 2 ≤ length bytes.now }
+    ensures { result ≡ number_at bytes.now at }
+{
+    u16::from_le_bytes([bytes[at], bytes[at + 1]])
+}
+
 // Writes the numbers of the first size records to the front of the room.
 fn fill_numbers(bytes: &[u8], size: usize, room: &mut [u16])
     requires { (size ≤ 4096) × (10 * size ≤ length bytes.now) × (width * size ≤ length room.old) }
@@ -61,10 +70,10 @@ fn fill_numbers(bytes: &[u8], size: usize, room: &mut [u16])
 {
     for i in 0..size {
         let at = 10 * i;
-        let name = number_at(bytes, at + 2);
-        let post = number_at(bytes, at + 4);
-        let ff = number_at(bytes, at + 6);
-        let fa = number_at(bytes, at + 8);
+        let name = number_in(bytes, at + 2);
+        let post = number_in(bytes, at + 4);
+        let ff = number_in(bytes, at + 6);
+        let fa = number_in(bytes, at + 8);
         room[4 * i..4 * i + 4].copy_from_slice(&[name, post, ff, fa]);
     }
 }

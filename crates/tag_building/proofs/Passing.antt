@@ -1,5 +1,6 @@
 -- The loop that judges and builds at once: what holds at each tag, and what it comes to.
 --   faulty, faultless   what a test came to, by whether it is a fault
+--   starts_open      at the start no root is closed
 --   Passing          what was asked at the start is what is still asked here, and the tags passed are built
 --   passing_…        it begins so, goes on so with each tag, and ends or refuses so
 use Prim.Native.Nat.{ℕ, ◌+◌, ◌-◌, ◌*◌, ◌≤◌}
@@ -16,7 +17,7 @@ use Rattle.bytes_read.specs.Bytes.{number_at}
 use Rattle.bytes_read.specs.Scans.{Scan, begin}
 use Rattle.bytes_read.proofs.Scanning.{Going, going_start, going_end, going_fault, going_next}
 use Rattle.tag_scan.specs.TagLists.{opening, tag_fault, tag_next, tree_end}
-use Rattle.tag_scan.proofs.TagFaults.{closed_is, end_closed, Opened, Closed, opened_of, closed_of_law}
+use Rattle.tag_scan.proofs.TagFaults.{closed_open, closed_none, closed_is, end_open, end_closed, Opened, Closed, opened_of, closed_of_law}
 use Rattle.tag_building.specs.Builds.{open_room, close_room, parent_in}
 use Rattle.tag_building.specs.Filled.{BuiltPromise}
 use Rattle.tag_building.proofs.Build.{Built, built_start, built_end, built_open, built_close}
@@ -29,6 +30,10 @@ faulty (Err f) h z = some_number f z
 pub faultless : (v : Result Unit Fault) → is_err v ≡ false → tested v ≡ 0
 faultless (Ok u) h = refl
 faultless (Err f) h = cc
+
+-- at the start no root is closed
+pub starts_open : (all : Bool) (b : List ℕ) (p : ℕ) → tree_end all b (begin p) ≡ false
+starts_open all b p = end_open all b (begin p) (closed_none (begin p) (omega arith))
 
 module _ (all any : Bool) (m : ℕ) (b : List ℕ) (p : ℕ) (room₀ : List ℕ) where
   abbrev Goes : Scan → Type 0
@@ -44,10 +49,9 @@ module _ (all any : Bool) (m : ℕ) (b : List ℕ) (p : ℕ) (room₀ : List ℕ
   pub passing_start : Passing room₀ (begin p) 0
   passing_start = record { going = going_start _ _ _ _ _; made = built_start b p room₀; nested = omega arith; few = omega arith }
 
-  -- e is whether the tree is read
-  module _ (room : List ℕ) (st : Scan) (top : ℕ) (s : Passing room st top) (e : Bool) (ended : e ≡ tree_end all b st) where
-    pub passing_end : e ≡ true → 4 * m ≤ length room₀ → BuiltPromise all any m b p room₀ 0 st.at st.count room
-    passing_end y l =
+  module _ (room : List ℕ) (st : Scan) (top : ℕ) (s : Passing room st top) where
+    pub passing_end : (e : Bool) → e ≡ tree_end all b st → e ≡ true → 4 * m ≤ length room₀ → BuiltPromise all any m b p room₀ 0 st.at st.count room
+    passing_end e ended y l =
         let e = sym ended ∙ y in
         let came = going_end _ _ _ _ _ _ s.going e in
         let z = closed_is st (end_closed all b _ e) in
@@ -62,10 +66,7 @@ module _ (all any : Bool) (m : ℕ) (b : List ℕ) (p : ℕ) (room₀ : List ℕ
         }
 
     -- v is what the test of the tag here came to, r whether it is a fault
-    module _ (on : e ≡ false) (v : Result Unit Fault) (told : tested v ≡ tag_fault any m b st) (r : Bool) (bad : r ≡ is_err v) where
-      goes_on : tree_end all b st ≡ false
-      goes_on = sym ended ∙ on
-
+    module _ (goes_on : tree_end all b st ≡ false) (v : Result Unit Fault) (told : tested v ≡ tag_fault any m b st) (r : Bool) (bad : r ≡ is_err v) where
       pub passing_fault : r ≡ true → BuiltPromise all any m b p room₀ (tested v) st.at st.count room
       passing_fault y =
           let n = faulty v (sym bad ∙ y) in
@@ -91,15 +92,18 @@ module _ (all any : Bool) (m : ℕ) (b : List ℕ) (p : ℕ) (room₀ : List ℕ
 
         pub passing_open : t ≡ true → (name : ℕ) (after : List ℕ) → name ≡ number_at b (st.at + 2) → after ≡ open_room room st.count name top
             → Passing after (record { at = st.at + 4; depth = st.depth + 1; count = st.count + 1 }) (st.count + 1)
+            × (tree_end all b (record { at = st.at + 4; depth = st.depth + 1; count = st.count + 1 }) ≡ false)
         passing_open y name after e q =
             let o = opened_here y in
-            let d : st.count - st.depth ≡ st.count + 1 - (st.depth + 1) = omega arith in
-            record {
-              going = going_next _ _ _ _ _ _ _ s.going goes_on (sym told ∙ none) (sym o.is) (omega (arith, o.body)) (omega arith);
-              made = subst (Built b p room₀ after (st.at + 4) (st.count + 1) (st.count + 1)) d (built_open _ _ _ _ _ _ _ _ s.made name after o.opens_here e q);
-              nested = omega (arith, s.nested);
-              few = omega (arith, o.few);
-            }
+            let d : st.count - st.depth ≡ st.count + 1 - (st.depth + 1) = omega arith in (
+              record {
+                going = going_next _ _ _ _ _ _ _ s.going goes_on (sym told ∙ none) (sym o.is) (omega (arith, o.body)) (omega arith);
+                made = subst (Built b p room₀ after (st.at + 4) (st.count + 1) (st.count + 1)) d (built_open _ _ _ _ _ _ _ _ s.made name after o.opens_here e q);
+                nested = omega (arith, s.nested);
+                few = omega (arith, o.few);
+              },
+              end_open all b _ (closed_open (record { at = st.at + 4; depth = st.depth + 1; count = st.count + 1 }) (λ z. omega (arith, z))),
+            )
 
         pub passing_close : t ≡ false → (up : ℕ) (after : List ℕ) → up ≡ parent_in room top
             → after ≡ close_room room top (st.count - st.depth + 1) (st.count + 1)

@@ -4,10 +4,11 @@
 ghost use Rattle.std.specs.Prelude.{◌≡◌, ◌+◌, ◌*◌, ◌≤◌, length};
 ghost use Rattle.trees.specs.Signature.{width};
 ghost use Rattle.terms.specs.Faults.{tested};
+ghost use Rattle.bytes_read.specs.Bytes.{number_at};
 ghost use Rattle.tag_building.specs.Filled.{FilledPromise, BuiltPromise};
 ghost use Rattle.tag_building.specs.Builds.{open_room, close_room, parent_in};
 
-use bytes_read::{is_marked, number_at};
+use bytes_read::is_marked;
 use tag_scan::{Cursor, Limits};
 use terms::{Fault, Kind, give};
 
@@ -17,6 +18,14 @@ pub struct Judged {
     pub at: usize,
     pub count: u16,
     pub verdict: Result<(), Fault>,
+}
+
+// The name of an element that opens at a place, where its record is not cut. `number_at` takes every place, and would test again what the tag's test has judged.
+fn name_at(bytes: &[u8], at: usize) -> u16
+    requires { at + 4 ≤ length bytes.now }
+    ensures { result ≡ number_at bytes.now (at + 2) }
+{
+    u16::from_le_bytes([bytes[at + 2], bytes[at + 3]])
 }
 
 // The entry of an element that opens after size others. The numbers built are lent to it and to `close_entry`, and no struct holds them: the loop would hold
@@ -57,15 +66,16 @@ fn build_tree(limits: Limits, bytes: &[u8], whole: bool, from: usize, own: &mut 
         count: 0,
     };
     let mut top: u16 = 0;
-    // No `for`: the place moves on by two or four bytes, up to the close of the root or to the first faulty tag.
-    while !cursor.is_tree_end(bytes, whole) {
+    // No `for`: the place moves on by two or four bytes, up to the close of the root or to the first faulty tag. Whether the tree is read is asked only where
+    // an element has closed, since no other tag ends it.
+    loop {
         let Cursor { at, depth, count } = cursor;
         let verdict = cursor.test_tag(bytes, limits);
         if verdict.is_err() {
             return Judged { at, count, verdict };
         }
         if is_marked(bytes, at, b"OP") {
-            open_entry(own, count, number_at(bytes, at + 2), top);
+            open_entry(own, count, name_at(bytes, at), top);
             top = count + 1;
             cursor = Cursor {
                 at: at + 4,
@@ -79,12 +89,14 @@ fn build_tree(limits: Limits, bytes: &[u8], whole: bool, from: usize, own: &mut 
                 depth: depth - 1,
                 count,
             };
+            if cursor.is_tree_end(bytes, whole) {
+                return Judged {
+                    at: at + 2,
+                    count,
+                    verdict: Ok(()),
+                };
+            }
         }
-    }
-    Judged {
-        at: cursor.at,
-        count: cursor.count,
-        verdict: Ok(()),
     }
 }
 

@@ -53,10 +53,14 @@ impl Cursor {
     pub fn test_tag(self, bytes: &[u8], limits: Limits) -> Result<(), Fault>
         ensures { tested result ≡ tag_fault limits.any_name limits.most bytes.now (scan_of self) }
     {
-        let left = bytes.len().saturating_sub(self.at);
-        if left == 0 && 0 < self.count {
-            Err(Fault::BadNesting)
-        } else if left < 2 {
+        // No saturating difference: a tag that is there then takes one test more.
+        if bytes.len() <= self.at {
+            if 0 < self.count {
+                Err(Fault::BadNesting)
+            } else {
+                Err(Fault::Cut)
+            }
+        } else if bytes.len() - self.at < 2 {
             Err(Fault::Cut)
         } else if bytes_read::is_marked(bytes, self.at, b"OP") {
             self.test_open(bytes, limits)

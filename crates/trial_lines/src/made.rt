@@ -70,12 +70,14 @@ fn put(room: &mut [u16], numbers: &[u16]) {
 fn entries_into<F: Fn(u16, u16) -> [u16; 4]>(room: &mut [u16], n: u16, entry: F) -> usize
     requires { (i : ℕ) → 1 ≤ i → i ≤ n → F.pre entry n i }
 {
-    let mut rest = room;
-    for i in 1..=n {
-        let len = rest.len().min(4);
-        let (places, after) = rest.split_at_mut(len);
-        put(places, &entry(n, i));
-        rest = after;
+    let (places, end) = room.as_chunks_mut::<4>();
+    let whole = places.len().min(usize::from(n));
+    for i in 0..whole {
+        places[i] = entry(n, i as u16 + 1);
+    }
+    // The entry that fits only in part.
+    if whole < usize::from(n) {
+        put(end, &entry(n, whole as u16 + 1));
     }
     4 * usize::from(n)
 }

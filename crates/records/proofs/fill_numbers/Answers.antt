@@ -10,10 +10,10 @@ use Rattle.records.proofs.fill_numbers.Goals as goal
 pub loop-i-preserved : goal.loop-i-preserved
 loop-i-preserved c =
     let i = c.loop-i.i in
-    let four : List ℕ = c.number_at-name.result ∷ c.number_at-post.result ∷ c.number_at-ff.result ∷ c.number_at-fa.result ∷ [] in
+    let four : List ℕ = c.number_in-name.result ∷ c.number_in-post.result ∷ c.number_in-ff.result ∷ c.number_in-fa.result ∷ [] in
     numbers_stored _ _ _ _ _ _ _ _ _ _ c.loop-i.invariant (omega arith)
     (put_sets c.loop-i.room (4 * i) _ _ four _ refl c.copy_from_slice.ensures.after (omega arith) (omega (arith, c.loop-i.invariant.long)))
-    c.number_at-name.ensures c.number_at-post.ensures c.number_at-ff.ensures c.number_at-fa.ensures
+    c.number_in-name.ensures c.number_in-post.ensures c.number_in-ff.ensures c.number_in-fa.ensures
 
 pub returns : goal.returns
 returns c = storing_end _ _ _ _ _ c.loop-i.invariant (numbers_none _ _ _ (omega arith)) (omega (arith, numbers_length c.args.bytes.now 0 c.args.size))
